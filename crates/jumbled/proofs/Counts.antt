@@ -1,0 +1,137 @@
+-- Laws of `Bytes`, `cc` and `excess`.
+use mathlib.Core.Path.{_≡_, refl, sym, ap, ap₂, _∙_}
+use mathlib.Core.Bool.{Bool, true, false, cond}
+use mathlib.Core.List.{List, [], _∷_, _++_}
+use mathlib.Core.Logic.{_⊎_, inl, inr}
+use Prim.Native.Nat.{ℕ, zero, suc, _+_, _-_, _≤_, _<_}
+use native.Mathlib.Nat.{add-assoc, zero-add, zero-sub, le-refl, le-trans, sub-le-sub-left}
+use native.Mathlib.Omega.{arith}
+use lib.Dec.{eqb, leb}
+use lib.ListN.{length, getD, take, drop, take-append-drop}
+use borrow.Author.Tests.{eq-eqb, ne-eqb, eqb-true, eqb-false, le-leb, lt-leb}
+use Rattle.jumbled.specs.Match.{Bytes, bit, cc, sum, excess, window}
+use Rattle.jumbled.proofs.Sums.{below-or-not, sum-zeros, sum-suc, sum-ext, sum-mono, sum-add, sum-at, sum-point}
+
+-- ---- bytes
+
+pub bytes-nil : Bytes []
+bytes-nil = record { below = λ i. omega arith }
+
+pub bytes-cons : {b : ℕ} {U : List ℕ} → b < 256 → Bytes U → Bytes (b ∷ U)
+bytes-cons {b} {U} h hs = record { below = at }
+  where
+    at : (i : ℕ) → getD (b ∷ U) i 0 < 256
+    at zero = h
+    at (suc i) = hs .below i
+
+pub bytes-head : {b : ℕ} {U : List ℕ} → Bytes (b ∷ U) → b < 256
+bytes-head h = h .below 0
+
+pub bytes-tail : {b : ℕ} {U : List ℕ} → Bytes (b ∷ U) → Bytes U
+bytes-tail h = record { below = λ i. h .below (suc i) }
+
+pub bytes-append : (U W : List ℕ) → Bytes U → Bytes W → Bytes (U ++ W)
+bytes-append [] W hU hV = hV
+bytes-append (b ∷ U) W hU hV = bytes-cons (bytes-head hU) (bytes-append U W (bytes-tail hU) hV)
+
+pub bytes-take : (n : ℕ) (U : List ℕ) → Bytes U → Bytes (take n U)
+bytes-take zero U h = bytes-nil
+bytes-take (suc n) [] h = bytes-nil
+bytes-take (suc n) (b ∷ U) h = bytes-cons (bytes-head h) (bytes-take n U (bytes-tail h))
+
+pub bytes-drop : (n : ℕ) (U : List ℕ) → Bytes U → Bytes (drop n U)
+bytes-drop zero U h = h
+bytes-drop (suc n) [] h = bytes-nil
+bytes-drop (suc n) (b ∷ U) h = bytes-drop n U (bytes-tail h)
+
+-- ---- cc
+
+pub cc-nil : (c : ℕ) → cc [] c ≡ 0
+unfolding cc
+cc-nil c = refl
+
+pub cc-cons : (b : ℕ) (U : List ℕ) (c : ℕ) → cc (b ∷ U) c ≡ bit (eqb b c) + cc U c
+unfolding cc
+cc-cons b U c = refl
+
+pub cc-append : (U W : List ℕ) (c : ℕ) → cc (U ++ W) c ≡ cc U c + cc W c
+unfolding cc
+cc-append [] W c = sym (zero-add (cc W c))
+cc-append (b ∷ U) W c = ap (λ (n : ℕ). bit (eqb b c) + n) (cc-append U W c) ∙ sym (add-assoc (bit (eqb b c)) (cc U c) (cc W c))
+
+pub cc-take : (n : ℕ) (U : List ℕ) (c : ℕ) → cc (take n U) c ≤ cc U c
+cc-take n U c = omega (arith, cc-append (take n U) (drop n U) c, ap (λ (l : List ℕ). cc l c) (take-append-drop n U))
+
+pub cc-drop : (n : ℕ) (U : List ℕ) (c : ℕ) → cc (drop n U) c ≤ cc U c
+cc-drop n U c = omega (arith, cc-append (take n U) (drop n U) c, ap (λ (l : List ℕ). cc l c) (take-append-drop n U))
+
+bit-le : (t : Bool) → bit t ≤ 1
+bit-le true = omega arith
+bit-le false = omega arith
+
+pub cc-length : (U : List ℕ) (c : ℕ) → cc U c ≤ length U
+unfolding cc
+cc-length [] c = omega arith
+cc-length (b ∷ U) c = let ih = cc-length U c in omega (arith, bit-le (eqb b c))
+
+-- no byte is 256 or more
+pub cc-out : (U : List ℕ) (c : ℕ) → Bytes U → 256 ≤ c → cc U c ≡ 0
+unfolding cc
+cc-out [] c h l = refl
+cc-out (b ∷ U) c h l =
+    let hb = bytes-head h in
+    rw (ne-eqb b c (λ e. omega arith), cc-out U c (bytes-tail h) l) refl
+
+-- the counts of all bytes add up to the length
+pub cc-total : (U : List ℕ) → Bytes U → sum 256 (cc U) ≡ length U
+cc-total [] h = sum-zeros 256 (cc []) cc-nil
+cc-total (b ∷ U) h =
+    sum-ext 256 (cc (b ∷ U)) (λ c. bit (eqb b c) + cc U c) (λ c l. cc-cons b U c)
+    ∙ sum-add 256 (λ c. bit (eqb b c)) (cc U)
+    ∙ ap₂ _+_ (sum-point 256 b 1 (bytes-head h)) (cc-total U (bytes-tail h))
+    ∙ omega arith
+
+-- ---- excess
+
+pub excess-nil : (P : List ℕ) → excess P [] ≡ 0
+unfolding excess
+excess-nil P = sum-zeros 256 (λ c. cc [] c - cc P c) (λ c. rw (cc-nil c) (zero-sub (cc P c)))
+
+-- more of each byte, no less excess
+pub excess-mono : (P U W : List ℕ) → ((c : ℕ) → cc U c ≤ cc W c) → excess P U ≤ excess P W
+unfolding excess
+excess-mono P U W h = sum-mono 256 (λ c. cc U c - cc P c) (λ c. cc W c - cc P c) (λ c l. omega (arith, h c))
+
+-- a byte more adds 1 where P's share of it was used up before
+pub excess-cons : (P : List ℕ) (b : ℕ) (R : List ℕ) → b < 256 → excess P (b ∷ R) ≡ excess P R + bit (leb (cc P b) (cc R b))
+unfolding excess
+excess-cons P b R h =
+    sum-ext 256 (λ c. cc (b ∷ R) c - cc P c) (λ c. (cc R c - cc P c) + cond (eqb b c) (bit (leb (cc P b) (cc R b))) 0) (λ c l. at c)
+    ∙ sum-add 256 (λ c. cc R c - cc P c) (λ c. cond (eqb b c) (bit (leb (cc P b) (cc R b))) 0)
+    ∙ ap (λ (n : ℕ). sum 256 (λ c. cc R c - cc P c) + n) (sum-point 256 b (bit (leb (cc P b) (cc R b))) h)
+  where
+    one-more : (p r : ℕ) → (r < p) ⊎ (p ≤ r) → (1 + r) - p ≡ (r - p) + bit (leb p r)
+    one-more p r (inl l) = rw (lt-leb p r l) (omega arith)
+    one-more p r (inr l) = rw (le-leb p r l) (omega arith)
+
+    case : (c : ℕ) (t : Bool) → eqb b c ≡ t → (bit t + cc R c) - cc P c ≡ (cc R c - cc P c) + cond t (bit (leb (cc P b) (cc R b))) 0
+    case c true e = rw (eqb-true b c e) (one-more (cc P c) (cc R c) (below-or-not (cc R c) (cc P c)))
+    case c false e = omega arith
+
+    at : (c : ℕ) → cc (b ∷ R) c - cc P c ≡ (cc R c - cc P c) + cond (eqb b c) (bit (leb (cc P b) (cc R b))) 0
+    at c = rw (cc-cons b R c) (case c (eqb b c) refl)
+
+-- the excess never shrinks when a part of a window is extended to the left, and grows by at most 1 a byte
+pub excess-append : (P A R : List ℕ) → Bytes A → excess P (A ++ R) ≤ length A + excess P R
+excess-append P [] R h = omega arith
+excess-append P (b ∷ A) R h =
+    let ih = excess-append P A R (bytes-tail h) in
+    omega (arith, excess-cons P b (A ++ R) (bytes-head h), bit-le (leb (cc P b) (cc (A ++ R) b)))
+
+pub excess-left : (P A R : List ℕ) → excess P R ≤ excess P (A ++ R)
+excess-left P A R = excess-mono P R (A ++ R) (λ c. omega (arith, cc-append A R c))
+
+-- the surplus of one byte is part of the excess
+pub excess-at : (P R : List ℕ) (c : ℕ) → c < 256 → cc R c - cc P c ≤ excess P R
+unfolding excess
+excess-at P R c h = sum-at 256 (λ d. cc R d - cc P d) c h

@@ -1,0 +1,28 @@
+-- The heap values of method 5: document 01, "The five methods", 5, after document 001.
+use Prim.Native.Nat.{ℕ, zero, suc, _+_, _%_, _^_}
+use mathlib.Core.Bool.{Bool, cond, not}
+use mathlib.Core.List.{List, [], _∷_}
+use lib.Dec.{leb, eqb}
+use lib.ListN.{length}
+use Rattle.jumbled.specs.Match.{bit, cc, sum}
+
+-- The letter c occurs in P
+unfoldable pub occurs : List ℕ → ℕ → Bool
+occurs P c = not (eqb (cc P c) 0)
+
+-- How many distinct letters of P are below c. Of a letter of P it is the i of c_i; of 256 it is q.
+unfoldable pub rank : List ℕ → ℕ → ℕ
+rank P c = sum c (λ d. bit (occurs P d))
+
+-- The value of c_i is (m + 1)^i, of any other letter 0; the powers wrap at 2^64
+unfoldable pub heapValue : List ℕ → ℕ → ℕ
+heapValue P c = cond (occurs P c) ((length P + 1) ^ rank P c % 2 ^ 64) 0
+
+-- The sum of a window's values; the sums wrap at 2^64
+unfoldable pub heapSum : List ℕ → List ℕ → ℕ
+heapSum P [] = 0
+heapSum P (b ∷ W) = (heapValue P b + heapSum P W) % 2 ^ 64
+
+-- (m + 1)^q ≤ 2^64: a candidate matches, and is not verified
+unfoldable pub exact : List ℕ → Bool
+exact P = leb ((length P + 1) ^ rank P 256) (2 ^ 64)

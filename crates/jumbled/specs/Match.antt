@@ -1,0 +1,51 @@
+-- What a match is: document 01, "What a match is"; document 000, section 1.
+-- A text, a pattern and a window are lists of bytes. Document 01 calls a byte a reading or a letter, and a text a record.
+use Prim.Native.Nat.{ℕ, zero, suc, _+_, _-_, _<_}
+use mathlib.Core.Bool.{Bool, cond}
+use mathlib.Core.List.{List, [], _∷_}
+use lib.Dec.{leb, eqb}
+use lib.ListN.{length, getD, take, drop}
+
+-- Every element is a byte. Document 01: "A reading is one byte, 0 to 255".
+pub record Bytes (U : List ℕ) : Type 0 where
+  pub below : (i : ℕ) → getD U i 0 < 256
+
+-- 1 where a test holds, else 0
+abbrev pub bit : Bool → ℕ
+bit b = cond b 1 0
+
+-- cc(U, c): how often c occurs in U
+unfoldable pub cc : List ℕ → ℕ → ℕ
+cc [] c = 0
+cc (b ∷ U) c = bit (eqb b c) + cc U c
+
+-- f(0) + f(1) + ... + f(n - 1)
+unfoldable pub sum : ℕ → (ℕ → ℕ) → ℕ
+sum zero f = 0
+sum (suc n) f = sum n f + f n
+
+-- The excess of the window W over the pattern P: the sum over all bytes c of max(cc(W, c) - cc(P, c), 0).
+-- A difference of naturals stops at 0, so it is that maximum.
+unfoldable pub excess : List ℕ → List ℕ → ℕ
+excess P W = sum 256 (λ c. cc W c - cc P c)
+
+-- W, of the pattern's length, is a k-approximate permutation of P
+unfoldable pub matches : List ℕ → ℕ → List ℕ → Bool
+matches P k W = leb (excess P W) k
+
+-- The m bytes of T from position s on
+abbrev pub window : ℕ → List ℕ → ℕ → List ℕ
+window m T s = take m (drop s T)
+
+-- How many window starts a text has: the s with s + m ≤ n are those below n + 1 - m
+abbrev pub starts : ℕ → List ℕ → ℕ
+starts m T = suc (length T) - m
+
+-- Of the numbers s, s + 1, ..., s + count - 1 those that pass the test, ascending
+unfoldable pub select : (ℕ → Bool) → ℕ → ℕ → List ℕ
+select test s zero = []
+select test s (suc count) = cond (test s) (s ∷ select test (suc s) count) (select test (suc s) count)
+
+-- The listed positions: all s with s + m ≤ n whose window matches, ascending
+unfoldable pub positions : List ℕ → ℕ → List ℕ → List ℕ
+positions P k T = select (λ s. matches P k (window (length P) T s)) 0 (starts (length P) T)

@@ -1,0 +1,75 @@
+-- The two ways of going through a text: document 01, "The five methods", the sentences above the list, and 1 and 5 for the sliding window.
+-- An inspection is document 01's look: one byte taken by the steps.
+use Prim.Native.Nat.{ℕ, zero, suc, _+_, _-_}
+use mathlib.Core.Bool.{Bool, true, false, cond}
+use mathlib.Core.List.{List, [], _∷_, _++_}
+use lib.ListN.{length}
+use Rattle.jumbled.specs.Match.{window}
+
+-- What the steps of a method yield
+pub record Result : Type 0 where
+  pub positions : List ℕ
+  pub inspections : ℕ
+
+abbrev pub nothing : Result
+nothing = record { positions = []; inspections = 0 }
+
+-- One window's share, before what the windows after it yield: s, if it is listed, and its inspections
+abbrev pub note : Bool → ℕ → ℕ → Result → Result
+note listed s taken rest =
+    record {
+      positions = cond listed (s ∷ rest .positions) (rest .positions);
+      inspections = taken + rest .inspections;
+    }
+
+-- ---- backward: methods 2, 3 and 4
+
+-- The scan of the window at s: whether s is listed, the offset p - s of the position p at which it stopped, or 0 where all of the window
+-- was read, and the inspections. The search goes on at p + 1, after a match at s + 1: at s + offset + 1.
+pub record Scanned : Type 0 where
+  pub listed : Bool
+  pub offset : ℕ
+  pub inspections : ℕ
+
+-- A window is read from its right end, step by step. Each step takes a group of bytes, the groups standing in the order of reading; R is
+-- the part of the window read so far, as it stands in the text. Where the test holds of R after a step, the scan stops at R's first byte.
+unfoldable pub scan : (List ℕ → Bool) → ℕ → List ℕ → List (List ℕ) → Scanned
+scan stop m R [] = record { listed = true; offset = 0; inspections = length R }
+scan stop m R (group ∷ groups) =
+    cond (stop (group ++ R))
+    (record { listed = false; offset = m - length (group ++ R); inspections = length (group ++ R) })
+    (scan stop m (group ++ R) groups)
+
+-- A window's bytes, the rightmost first, in groups of one (methods 2 and 4)
+unfoldable pub singles : List ℕ → List (List ℕ)
+singles [] = []
+singles (b ∷ more) = (b ∷ []) ∷ singles more
+
+-- and in groups of two, each as it stands in the text, the leftmost byte alone where their number is odd (method 3)
+unfoldable pub pairs : List ℕ → List (List ℕ)
+pairs [] = []
+pairs (b ∷ []) = (b ∷ []) ∷ []
+pairs (b ∷ a ∷ more) = (a ∷ b ∷ []) ∷ pairs more
+
+-- The driver of the backward methods, from the window start s on: `left` window starts are left, and the first `skip` of them are passed over.
+unfoldable pub backward : (List ℕ → Scanned) → ℕ → List ℕ → ℕ → ℕ → ℕ → Result
+backward scanned m T s zero skip = nothing
+backward scanned m T s (suc left) (suc skip) = backward scanned m T (suc s) left skip
+backward scanned m T s (suc left) zero =
+    let w : Scanned = scanned (window m T s) in
+    note (w .listed) s (w .inspections) (backward scanned m T (suc s) left (w .offset))
+
+-- ---- forward: methods 1 and 5
+
+-- What is found of a window: whether it is listed, and the inspections that its verification adds
+pub record Judged : Type 0 where
+  pub listed : Bool
+  pub verification : ℕ
+
+-- The driver of the forward methods, from the window start s on: `left` window starts are left, and it takes `cost` inspections to have the
+-- window at s: m for the first window, one for each further one.
+unfoldable pub forward : (List ℕ → Judged) → ℕ → List ℕ → ℕ → ℕ → ℕ → Result
+forward judged m T s zero cost = nothing
+forward judged m T s (suc left) cost =
+    let w : Judged = judged (window m T s) in
+    note (w .listed) s (cost + w .verification) (forward judged m T (suc s) left 1)

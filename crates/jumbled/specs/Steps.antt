@@ -1,0 +1,44 @@
+-- The steps of the five methods: document 01, "The five methods", 1 to 5. The methods have the papers' names:
+-- 1 count, 2 bam (packed backward), 3 bam2 (pairs backward), 4 abam (approximate backward), 5 hcam (heap values).
+use Prim.Native.Nat.{ℕ, zero, suc, _+_}
+use mathlib.Core.Bool.{Bool, true, false, cond}
+use mathlib.Core.List.{List, [], _∷_, reverse}
+use lib.Dec.{ltb, eqb}
+use lib.ListN.{length}
+use Rattle.jumbled.specs.Match.{matches, starts}
+use Rattle.jumbled.specs.Scan.{Result, nothing, Scanned, scan, singles, pairs, backward, Judged, forward}
+use Rattle.jumbled.specs.Fields.{bamLayout, bam2Layout, abamLayout, overflows, errors}
+use Rattle.jumbled.specs.Heap.{heapSum, exact}
+
+-- 1: a sliding window; the window is judged by its counts
+unfoldable pub countJudged : List ℕ → ℕ → List ℕ → Judged
+countJudged P k W = record { listed = matches P k W; verification = 0 }
+
+-- 2: one byte a step; stops where a field's top bit is set
+unfoldable pub bamScan : List ℕ → List ℕ → Scanned
+bamScan P W = scan (overflows P bamLayout) (length P) [] (singles (reverse W))
+
+-- 3: two bytes a step; stops where a field's top bit is set
+unfoldable pub bam2Scan : List ℕ → List ℕ → Scanned
+bam2Scan P W = scan (overflows P bam2Layout) (length P) [] (pairs (reverse W))
+
+-- 4: one byte a step; stops where the errors pass k
+unfoldable pub abamScan : List ℕ → ℕ → List ℕ → Scanned
+abamScan P k W = scan (λ R. ltb k (errors P (abamLayout k) R)) (length P) [] (singles (reverse W))
+
+-- 5: a candidate's sum equals P's; it matches where the values are exact, and is verified by counting otherwise, m inspections more
+unfoldable pub hcamJudged : List ℕ → List ℕ → Judged
+hcamJudged P W =
+    cond (eqb (heapSum P W) (heapSum P P))
+    (cond (exact P) (record { listed = true; verification = 0 }) (record { listed = matches P 0 W; verification = length P }))
+    (record { listed = false; verification = 0 })
+
+-- The steps of a method, by its number, over a text; a number that is no method's yields nothing
+unfoldable pub steps : List ℕ → ℕ → ℕ → List ℕ → Result
+steps P k method T =
+    cond (eqb method 1) (forward (countJudged P k) (length P) T 0 (starts (length P) T) (length P))
+    (cond (eqb method 2) (backward (bamScan P) (length P) T 0 (starts (length P) T) 0)
+    (cond (eqb method 3) (backward (bam2Scan P) (length P) T 0 (starts (length P) T) 0)
+    (cond (eqb method 4) (backward (abamScan P k) (length P) T 0 (starts (length P) T) 0)
+    (cond (eqb method 5) (forward (hcamJudged P) (length P) T 0 (starts (length P) T) (length P))
+    nothing))))

@@ -1,0 +1,1 @@
+// Jumbled matching: definitions (specs/) and the theorems about them (proofs/). No code.
