@@ -1,0 +1,1 @@
+// Parikh vectors: how often each byte occurs in a slice, as an array of 256 counters by value.
