@@ -8,9 +8,10 @@ use native.Mathlib.Nat.{add-assoc, zero-add, zero-sub, le-refl, le-trans, sub-le
 use native.Mathlib.Omega.{arith}
 use lib.Dec.{eqb, leb}
 use lib.ListN.{length, getD, take, drop, take-append-drop}
+use lib.Seq.{take-append-seam, drop-append-seam}
 use borrow.Author.Tests.{eq-eqb, ne-eqb, eqb-true, eqb-false, le-leb, lt-leb}
 use Rattle.jumbled.specs.Match.{Bytes, bit, cc, sum, excess, window}
-use Rattle.jumbled.proofs.Sums.{below-or-not, sum-zeros, sum-suc, sum-ext, sum-mono, sum-add, sum-at, sum-point}
+use Rattle.jumbled.proofs.Sums.{below-or-not, sum-zeros, sum-suc, sum-ext, sum-mono, sum-add, sum-at, sum-same, sum-point}
 
 -- ---- bytes
 
@@ -43,6 +44,12 @@ pub bytes-drop : (n : ℕ) (U : List ℕ) → Bytes U → Bytes (drop n U)
 bytes-drop zero U h = h
 bytes-drop (suc n) [] h = bytes-nil
 bytes-drop (suc n) (b ∷ U) h = bytes-drop n U (bytes-tail h)
+
+pub bytes-front : (U W : List ℕ) → Bytes (U ++ W) → Bytes U
+bytes-front U W h = rw (take-append-seam U W) at (bytes-take (length U) (U ++ W) h)
+
+pub bytes-back : (U W : List ℕ) → Bytes (U ++ W) → Bytes W
+bytes-back U W h = rw (drop-append-seam U W) at (bytes-drop (length U) (U ++ W) h)
 
 -- ---- cc
 
@@ -135,3 +142,22 @@ excess-left P A R = excess-mono P R (A ++ R) (λ c. omega (arith, cc-append A R 
 pub excess-at : (P R : List ℕ) (c : ℕ) → c < 256 → cc R c - cc P c ≤ excess P R
 unfolding excess
 excess-at P R c h = sum-at 256 (λ d. cc R d - cc P d) c h
+
+-- ---- windows of the pattern's length
+
+module _ (P W : List ℕ) (hP : Bytes P) (hW : Bytes W) (same : length W ≡ length P) where
+  totals : sum 256 (cc W) ≡ sum 256 (cc P)
+  totals = cc-total W hW ∙ same ∙ sym (cc-total P hP)
+
+  -- no excess: the counts are the pattern's
+  pub counts-of-excess : excess P W ≡ 0 → (c : ℕ) → c < 256 → cc W c ≡ cc P c
+  counts-of-excess e = sum-same 256 (cc W) (cc P) (λ c l. omega (arith, excess-at P W c l)) totals
+
+  -- no byte too few: the counts are the pattern's
+  pub counts-of-enough : ((c : ℕ) → c < 256 → cc P c ≤ cc W c) → (c : ℕ) → c < 256 → cc W c ≡ cc P c
+  counts-of-enough h c l = sym (sum-same 256 (cc P) (cc W) h (sym totals) c l)
+
+pub excess-of-counts : (P W : List ℕ) → ((c : ℕ) → c < 256 → cc W c ≡ cc P c) → excess P W ≡ 0
+unfolding excess
+excess-of-counts P W h =
+    sum-ext 256 (λ c. cc W c - cc P c) (λ c. 0) (λ c l. omega (arith, h c l)) ∙ sum-zeros 256 (λ c. 0) (λ c. refl)

@@ -2,4 +2,10 @@
 pub mod Sums
 pub mod Counts
 pub mod Lg
+pub mod Drivers
+pub mod Scans
+pub mod Overflow
+pub mod HeapSums
+pub mod Admission
+pub mod Methods
 pub mod Sheet

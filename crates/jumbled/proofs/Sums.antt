@@ -50,6 +50,16 @@ sum-at (suc n) f c l =
     ⊎-elim (λ h. let ih = sum-at n f c h in omega arith) (λ (h : n ≤ c). let same : c ≡ n = omega arith in rw same (omega arith))
     (below-or-not c n)
 
+-- numbers that are at most others and add up to the same are the same
+pub sum-same : (n : ℕ) (f g : ℕ → ℕ) → ((c : ℕ) → c < n → f c ≤ g c) → sum n f ≡ sum n g → (c : ℕ) → c < n → f c ≡ g c
+unfolding sum
+sum-same zero f g h e c l = absurd (not-suc-le-zero l)
+sum-same (suc n) f g h e c l =
+    let below : sum n f ≤ sum n g = sum-mono n f g (λ d m. h d (omega arith)) in
+    let last : f n ≤ g n = h n (le-refl (suc n)) in
+    ⊎-elim (λ (m : c < n). sum-same n f g (λ d i. h d (omega arith)) (omega arith) c m)
+    (λ (m : n ≤ c). let same : c ≡ n = omega arith in rw same (omega arith)) (below-or-not c n)
+
 -- a number that stands at one place alone
 pub sum-none : (n b d : ℕ) → n ≤ b → sum n (λ c. cond (eqb b c) d 0) ≡ 0
 unfolding sum

@@ -1,0 +1,92 @@
+-- What it says that none of the tests 1 to 5 applies.
+use mathlib.Core.Path.{_≡_, refl, sym, ap, _∙_}
+use mathlib.Core.Bool.{Bool, true, false, cond, not, _&&_, _||_, true≢false}
+use mathlib.Core.List.{List, [], _∷_}
+use Prim.Native.Nat.{ℕ, zero, suc, _≤_, _<_}
+use native.Mathlib.Nat.{suc-ne-zero}
+use native.Mathlib.Omega.{arith}
+use lib.Dec.{leb, ltb, eqb}
+use lib.ListN.{length}
+use borrow.Author.Tests.{leb-true, leb-false, ltb-false, eqb-false, not-false}
+use Rattle.jumbled.specs.Fields.{layoutOf, bits}
+use Rattle.jumbled.specs.Refusals.{Test, test, given, methodTests, patternTests}
+
+-- nothing is given: the first test does not apply, and nothing of the rest is given
+pub given-none : (n : ℕ) (b : Bool) (ts : List Test) → given (test (suc n) b ∷ ts) ≡ 0 → (b ≡ false) × (given ts ≡ 0)
+unfolding given
+given-none n true ts e = absurd (suc-ne-zero n e)
+given-none n false ts e = (refl, e)
+
+or-false : (a b : Bool) → (a || b) ≡ false → (a ≡ false) × (b ≡ false)
+or-false true b e = absurd (true≢false e)
+or-false false b e = (refl, e)
+
+and-true : (a b : Bool) → (a && b) ≡ true → (a ≡ true) × (b ≡ true)
+and-true true b e = (refl, e)
+and-true false b e = absurd (true≢false (sym e))
+
+and-false : (a b : Bool) → (a && b) ≡ false → b ≡ true → a ≡ false
+and-false true b e h = absurd (true≢false (sym h ∙ e))
+and-false false b e h = refl
+
+-- 3, 4 and 5 do not apply
+pub record MethodTaken (P : List ℕ) (k method : ℕ) : Type 0 where
+  pub least : 1 ≤ method
+  pub most : method ≤ 5
+  pub no-tolerance : (eqb method 2 || eqb method 3 || eqb method 5) ≡ true → k ≡ 0
+  pub narrow : bits P (layoutOf k method) ≤ 64
+
+pub method-taken : (P : List ℕ) (k method : ℕ) → given (methodTests P k method) ≡ 0 → MethodTaken P k method
+unfolding methodTests
+method-taken P k method e =
+    record {
+      least = leb-true 1 method (known .0);
+      most = leb-true method 5 (known .1);
+      no-tolerance = λ h. zero-of (ltb-false 0 k (and-false (ltb 0 k) (eqb method 2 || eqb method 3 || eqb method 5) (fourth .0) h));
+      narrow = ltb-false 64 (bits P (layoutOf k method)) (fifth .0);
+    }
+  where
+    third : (not (leb 1 method && leb method 5) ≡ false)
+        × (given (test 4 (ltb 0 k && (eqb method 2 || eqb method 3 || eqb method 5)) ∷ test 5 (ltb 64 (bits P (layoutOf k method))) ∷ []) ≡ 0)
+    third = given-none 2 _ _ e
+
+    known : (leb 1 method ≡ true) × (leb method 5 ≡ true)
+    known = and-true (leb 1 method) (leb method 5) (not-false (leb 1 method && leb method 5) (third .0))
+
+    fourth : ((ltb 0 k && (eqb method 2 || eqb method 3 || eqb method 5)) ≡ false) × (given (test 5 (ltb 64 (bits P (layoutOf k method))) ∷ []) ≡ 0)
+    fourth = given-none 3 _ _ (third .1)
+
+    fifth : (ltb 64 (bits P (layoutOf k method)) ≡ false) × (given [] ≡ 0)
+    fifth = given-none 4 _ _ (fourth .1)
+
+    zero-of : k ≤ 0 → k ≡ 0
+    zero-of h = omega arith
+
+-- 1 to 5 do not apply
+pub record Admitted (P : List ℕ) (k method : ℕ) : Type 0 where
+  pub some : 0 < length P
+  pub short : length P ≤ 64
+  pub within : k < length P
+  pub taken : MethodTaken P k method
+
+pub admitted : (P : List ℕ) (k method : ℕ) → given (patternTests P k method) ≡ 0 → Admitted P k method
+unfolding patternTests
+admitted P k method e =
+    record {
+      some = positive (eqb-false (length P) 0 (sizes .0));
+      short = ltb-false 64 (length P) (sizes .1);
+      within = leb-false (length P) k (second .0);
+      taken = method-taken P k method (second .1);
+    }
+  where
+    one : ((eqb (length P) 0 || ltb 64 (length P)) ≡ false) × (given (test 2 (leb (length P) k) ∷ methodTests P k method) ≡ 0)
+    one = given-none 0 _ _ e
+
+    sizes : (eqb (length P) 0 ≡ false) × (ltb 64 (length P) ≡ false)
+    sizes = or-false (eqb (length P) 0) (ltb 64 (length P)) (one .0)
+
+    second : (leb (length P) k ≡ false) × (given (methodTests P k method) ≡ 0)
+    second = given-none 1 _ _ (one .1)
+
+    positive : (length P ≡ 0 → ⊥) → 0 < length P
+    positive h = omega arith

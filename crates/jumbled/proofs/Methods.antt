@@ -1,0 +1,72 @@
+-- The theorem of the methods: what is not refused by 1 to 5 lists exactly the matching positions (demand 2, on the definitions).
+use mathlib.Core.Path.{_≡_, refl, sym, ap, _∙_}
+use mathlib.Core.Bool.{Bool, true, false, cond, not, _&&_, _||_}
+use mathlib.Core.List.{List, [], _∷_, reverse}
+use Prim.Native.Nat.{ℕ, zero, suc, _+_, _≤_, _<_}
+use native.Mathlib.Nat.{zero-add, le-of-eq, not-suc-le-zero}
+use native.Mathlib.Omega.{arith}
+use lib.Dec.{leb, ltb, eqb}
+use lib.ListN.{length}
+use Rattle.jumbled.specs.Match.{Bytes, matches, starts, select, positions}
+use Rattle.jumbled.specs.Scan.{Result, Scanned, scan, singles, pairs, backward, Judged, forward}
+use Rattle.jumbled.specs.Fields.{bamLayout, bam2Layout, abamLayout, overflows, errors}
+use Rattle.jumbled.specs.Steps.{countJudged, bamScan, bam2Scan, abamScan, hcamJudged, steps}
+use Rattle.jumbled.specs.Refusals.{given, patternTests}
+use Rattle.jumbled.proofs.Admission.{MethodTaken, admitted}
+use Rattle.jumbled.proofs.Drivers.{Sound, matchesAt, backward-lists, forward-lists}
+use Rattle.jumbled.proofs.Scans.{scan-sound, by-singles, by-pairs}
+use Rattle.jumbled.proofs.Overflow.{overflows-exact, errors-exact, bam-roomy, bam2-roomy, abam-roomy}
+use Rattle.jumbled.proofs.HeapSums.{hcam-judges}
+
+-- ---- each method's scan or judgement
+
+pub bam-sound : (P : List ℕ) → Bytes P → Sound P 0 (bamScan P)
+unfolding bamScan
+bam-sound P hP =
+    scan-sound P 0 1 (overflows P bamLayout) (overflows-exact P 1 bamLayout hP bam-roomy) (λ W. singles (reverse W)) by-singles
+
+pub bam2-sound : (P : List ℕ) → Bytes P → Sound P 0 (bam2Scan P)
+unfolding bam2Scan
+bam2-sound P hP =
+    scan-sound P 0 2 (overflows P bam2Layout) (overflows-exact P 2 bam2Layout hP bam2-roomy) (λ W. pairs (reverse W)) by-pairs
+
+pub abam-sound : (P : List ℕ) (k : ℕ) → Bytes P → Sound P k (abamScan P k)
+unfolding abamScan
+abam-sound P k hP =
+    scan-sound P k 1 (λ R. ltb k (errors P (abamLayout k) R)) (errors-exact P k 1 (abamLayout k) hP (abam-roomy k))
+    (λ W. singles (reverse W)) by-singles
+
+-- ---- from the first window start on
+
+module _ (P : List ℕ) (k : ℕ) (T : List ℕ) (hT : Bytes T) where
+  backward-positions : (scanned : List ℕ → Scanned) → Sound P k scanned
+      → backward scanned (length P) T 0 (starts (length P) T) 0 .positions ≡ positions P k T
+  unfolding positions
+  backward-positions scanned sound =
+      backward-lists P k T hT scanned sound 0 (starts (length P) T) 0 (le-of-eq (zero-add (starts (length P) T))) (λ d l. absurd (not-suc-le-zero l))
+
+  forward-positions : (judged : List ℕ → Judged) → ((W : List ℕ) → Bytes W → length W ≡ length P → judged W .listed ≡ matches P k W)
+      → forward judged (length P) T 0 (starts (length P) T) (length P) .positions ≡ positions P k T
+  unfolding positions
+  forward-positions judged sound =
+      forward-lists P k T hT judged sound 0 (starts (length P) T) (length P) (le-of-eq (zero-add (starts (length P) T)))
+
+-- ---- the theorem
+
+by-method : (P : List ℕ) (k method : ℕ) (T : List ℕ) → Bytes P → Bytes T → MethodTaken P k method → steps P k method T .positions ≡ positions P k T
+unfolding steps countJudged
+by-method P k zero T hP hT taken = absurd (not-suc-le-zero (taken .least))
+by-method P k (suc zero) T hP hT taken = forward-positions P k T hT (countJudged P k) (λ W b e. refl)
+by-method P k (suc (suc zero)) T hP hT taken =
+    rw (taken .no-tolerance refl) (backward-positions P 0 T hT (bamScan P) (bam-sound P hP))
+by-method P k (suc (suc (suc zero))) T hP hT taken =
+    rw (taken .no-tolerance refl) (backward-positions P 0 T hT (bam2Scan P) (bam2-sound P hP))
+by-method P k (suc (suc (suc (suc zero)))) T hP hT taken = backward-positions P k T hT (abamScan P k) (abam-sound P k hP)
+by-method P k (suc (suc (suc (suc (suc zero))))) T hP hT taken =
+    rw (taken .no-tolerance refl) (forward-positions P 0 T hT (hcamJudged P) (λ W b e. hcam-judges P hP W b e))
+by-method P k (suc (suc (suc (suc (suc (suc n)))))) T hP hT taken = absurd (let most = taken .most in omega arith)
+
+-- Whatever is not refused by 1 to 5: the positions of the method's steps are exactly the listed positions
+pub methods-list : (P : List ℕ) (k method : ℕ) (T : List ℕ) → Bytes P → Bytes T → given (patternTests P k method) ≡ 0
+    → steps P k method T .positions ≡ positions P k T
+methods-list P k method T hP hT accepted = by-method P k method T hP hT (admitted P k method accepted .taken)

@@ -1,0 +1,292 @@
+-- The fields of methods 2, 3 and 4 tell an excess exactly, and none carries into its neighbour before the scan stops.
+use mathlib.Core.Path.{_≡_, refl, sym, ap, ap₂, _∙_}
+use mathlib.Core.Bool.{Bool, true, false, cond}
+use mathlib.Core.List.{List, [], _∷_, map}
+use mathlib.Core.Logic.{_⊎_, inl, inr, ⊎-elim}
+use Prim.Native.Nat.{ℕ, zero, suc, _+_, _-_, _*_, _/_, _%_, _^_, _≤_, _<_, max}
+use native.Mathlib.Nat.{le-trans, le-refl, pow-succ', div-eq-of-lt, eq-zero-or-pos, one-mul}
+use native.Mathlib.Omega.{arith}
+use lib.Dec.{leb, ltb, eqb, lit<, lit≤}
+use lib.Arith.{digits-div}
+use lib.Pow.{pow-pos}
+use borrow.Author.Tests.{eq-eqb, ne-eqb, lt-ltb, le-ltb, le-leb, lt-leb, ltb-true}
+use Rattle.jumbled.specs.Match.{Bytes, bit, cc, excess}
+use Rattle.jumbled.specs.Fields.{lg, shared, fields, fieldOf, Layout, bamLayout, bam2Layout, abamLayout, widthOf, startOf, valueOf, topSet, some, overflows, ownTopSet, errors}
+use Rattle.jumbled.proofs.Sums.{below-or-not, some-at, some-none}
+use Rattle.jumbled.proofs.Counts.{bytes-head, bytes-tail, cc-cons, cc-out, excess-nil, excess-cons, excess-at}
+use Rattle.jumbled.proofs.Lg.{lg-enough}
+use Rattle.jumbled.proofs.Scans.{Exact}
+
+-- ---- one field
+
+-- A field of g bits that starts at 2^(g-1) - v - 1 and was added to h times, which is at most v + 2^(g-1): its top bit is set exactly where
+-- h is over v, and it did not carry into its neighbour
+record Kept (g v h : ℕ) : Type 0 where
+  top : topSet g ((2 ^ (g - 1) - v - 1) + h) ≡ ltb v h
+  holds : (2 ^ (g - 1) - v - 1) + h < 2 ^ g
+
+kept : (g v h : ℕ) → 0 < g → v + 1 ≤ 2 ^ (g - 1) → h ≤ v + 2 ^ (g - 1) → Kept g v h
+unfolding topSet
+kept g v h some starts room =
+    record { top = ⊎-elim over under (below-or-not v h); holds = omega (arith, doubled g some) }
+  where
+    doubled : (n : ℕ) → 0 < n → 2 * 2 ^ (n - 1) ≡ 2 ^ n
+    doubled (suc n) l = let less : suc n - 1 ≡ n = omega arith in rw (less, pow-succ' 2 n) refl
+
+    over : v < h → eqb (((2 ^ (g - 1) - v - 1) + h) / 2 ^ (g - 1) % 2) 1 ≡ ltb v h
+    over l =
+        let split : (2 ^ (g - 1) - v - 1) + h ≡ 1 * 2 ^ (g - 1) + (h - v - 1) = omega arith in
+        rw (split, digits-div 1 {m = 2 ^ (g - 1)} {r = h - v - 1} (omega arith), lt-ltb v h l) refl
+
+    under : h ≤ v → eqb (((2 ^ (g - 1) - v - 1) + h) / 2 ^ (g - 1) % 2) 1 ≡ ltb v h
+    under l = rw (div-eq-of-lt {n = (2 ^ (g - 1) - v - 1) + h} {m = 2 ^ (g - 1)} (omega arith), le-ltb v h l) refl
+
+-- a field of 0 bits that nothing was added to
+kept-none : Kept 0 0 0
+unfolding topSet
+kept-none = record { top = refl; holds = lit< tt }
+
+-- a width that leaves room for a letter's start is no 0
+some-bits : (g v : ℕ) → 0 < v → v + 1 ≤ 2 ^ (g - 1) → 0 < g
+some-bits zero v h starts = omega arith
+some-bits (suc g) v h starts = omega arith
+
+-- ---- the fields of a pattern
+
+pub field-inside : (P : List ℕ) (c : ℕ) → 0 < cc P c → fieldOf P c ≡ c
+unfolding fieldOf
+field-inside P c h = rw (ne-eqb (cc P c) 0 (λ e. omega arith)) refl
+
+pub field-outside : (P : List ℕ) (c : ℕ) → cc P c ≡ 0 → fieldOf P c ≡ shared
+unfolding fieldOf
+field-outside P c e = rw (eq-eqb (cc P c) 0 e) refl
+
+pub width-own : (P : List ℕ) (layout : Layout) (f : ℕ) → f < 256 → 0 < cc P f → widthOf P layout f ≡ layout .own (cc P f)
+unfolding widthOf
+width-own P layout f l h = rw (ne-eqb f shared (λ e. omega arith), ne-eqb (cc P f) 0 (λ e. omega arith)) refl
+
+pub width-shared : (P : List ℕ) (layout : Layout) → widthOf P layout shared ≡ layout .common
+unfolding widthOf
+width-shared P layout = refl
+
+pub width-none : (P : List ℕ) (layout : Layout) (f : ℕ) → f < 256 → cc P f ≡ 0 → widthOf P layout f ≡ 0
+unfolding widthOf
+width-none P layout f l e = rw (ne-eqb f shared (λ q. omega arith), eq-eqb (cc P f) 0 e) refl
+
+-- a number stands for the shared field, for that of a letter of P, or for none
+pub data Stands (P : List ℕ) (f : ℕ) : Type 0 where
+  for-others : f ≡ shared → Stands P f
+  for-letter : f < 256 → 0 < cc P f → Stands P f
+  for-none : f < 256 → cc P f ≡ 0 → Stands P f
+
+pub stands : (P : List ℕ) (f : ℕ) → f < fields → Stands P f
+stands P f l =
+    ⊎-elim (λ (h : f < 256). ⊎-elim (λ e. for-none h e) (λ e. for-letter h e) (eq-zero-or-pos (cc P f)))
+    (λ (h : 256 ≤ f). for-others (omega arith)) (below-or-not f 256)
+
+field-numbered : (P : List ℕ) (b : ℕ) → b < 256 → fieldOf P b < fields
+field-numbered P b h =
+    ⊎-elim (λ e. rw (field-outside P b e) (omega arith)) (λ i. rw (field-inside P b i) (omega arith)) (eq-zero-or-pos (cc P b))
+
+-- how often a field was added to while R was read
+hits : List ℕ → List ℕ → ℕ → ℕ
+hits P R f = cc (map (fieldOf P) R) f
+
+hits-cons : (P : List ℕ) (b : ℕ) (R : List ℕ) (f : ℕ) → hits P (b ∷ R) f ≡ bit (eqb (fieldOf P b) f) + hits P R f
+unfolding hits
+hits-cons P b R f = cc-cons (fieldOf P b) (map (fieldOf P) R) f
+
+-- a letter's field counts that letter
+hits-letter : (P R : List ℕ) (f : ℕ) → f < 256 → 0 < cc P f → hits P R f ≡ cc R f
+unfolding hits cc
+hits-letter P [] f l h = refl
+hits-letter P (b ∷ R) f l h = ap₂ (λ (t : Bool) (n : ℕ). bit t + n) (⊎-elim outside inside (eq-zero-or-pos (cc P b))) (hits-letter P R f l h)
+  where
+    outside : cc P b ≡ 0 → eqb (fieldOf P b) f ≡ eqb b f
+    outside e =
+        rw (field-outside P b e, ne-eqb shared f (λ q. omega arith), ne-eqb b f (λ q. let same : cc P b ≡ cc P f = ap (cc P) q in omega arith)) refl
+
+    inside : 0 < cc P b → eqb (fieldOf P b) f ≡ eqb b f
+    inside i = rw (field-inside P b i) refl
+
+-- and the shared field letters that P lacks, each of which is in excess
+hits-shared : (P R : List ℕ) → Bytes R → hits P R shared ≤ excess P R
+unfolding hits cc
+hits-shared P [] hR = omega arith
+hits-shared P (b ∷ R) hR = let ih = hits-shared P R (bytes-tail hR) in ⊎-elim (outside ih) (inside ih) (eq-zero-or-pos (cc P b))
+  where
+    outside : hits P R shared ≤ excess P R → cc P b ≡ 0 → bit (eqb (fieldOf P b) shared) + hits P R shared ≤ excess P (b ∷ R)
+    outside ih e =
+        rw (field-outside P b e, excess-cons P b R (bytes-head hR), le-leb (cc P b) (cc R b) (omega arith)) (omega arith)
+
+    inside : hits P R shared ≤ excess P R → 0 < cc P b → bit (eqb (fieldOf P b) shared) + hits P R shared ≤ excess P (b ∷ R)
+    inside ih i =
+        let hb = bytes-head hR in
+        rw (field-inside P b i, ne-eqb b shared (λ q. omega arith), excess-cons P b R hb) (omega arith)
+
+-- the look at b adds to its field past the letter's count exactly when P's share of b was used up before
+hits-own : (P : List ℕ) (b : ℕ) (R : List ℕ) → Bytes P → b < 256
+    → ltb (cc P (fieldOf P b)) (hits P (b ∷ R) (fieldOf P b)) ≡ leb (cc P b) (cc R b)
+hits-own P b R hP hb = ⊎-elim outside inside (eq-zero-or-pos (cc P b))
+  where
+    outside : cc P b ≡ 0 → ltb (cc P (fieldOf P b)) (hits P (b ∷ R) (fieldOf P b)) ≡ leb (cc P b) (cc R b)
+    outside e =
+        rw (le-leb (cc P b) (cc R b) (omega arith))
+        (lt-ltb (cc P (fieldOf P b)) (hits P (b ∷ R) (fieldOf P b))
+        (rw (hits-cons P b R (fieldOf P b), eq-eqb (fieldOf P b) (fieldOf P b) refl, field-outside P b e, cc-out P shared hP (le-refl 256)) (omega arith)))
+
+    inside : 0 < cc P b → ltb (cc P (fieldOf P b)) (hits P (b ∷ R) (fieldOf P b)) ≡ leb (cc P b) (cc R b)
+    inside i =
+        rw (field-inside P b i, hits-letter P (b ∷ R) b hb i, cc-cons b R b, eq-eqb b b refl)
+        (⊎-elim (λ (l : cc R b < cc P b). rw (lt-leb (cc P b) (cc R b) l) (le-ltb (cc P b) (1 + cc R b) (omega arith)))
+        (λ (l : cc P b ≤ cc R b). rw (le-leb (cc P b) (cc R b) l) (lt-ltb (cc P b) (1 + cc R b) (omega arith))) (below-or-not (cc R b) (cc P b)))
+
+-- no byte adds to a number that stands for no field
+hits-none : (P R : List ℕ) (f : ℕ) → f < 256 → cc P f ≡ 0 → hits P R f ≡ 0
+unfolding hits cc
+hits-none P [] f l e = refl
+hits-none P (b ∷ R) f l e = rw (hits-none P R f l e) (⊎-elim outside inside (eq-zero-or-pos (cc P b)))
+  where
+    outside : cc P b ≡ 0 → bit (eqb (fieldOf P b) f) + 0 ≡ 0
+    outside o = rw (field-outside P b o, ne-eqb shared f (λ q. omega arith)) refl
+
+    inside : 0 < cc P b → bit (eqb (fieldOf P b) f) + 0 ≡ 0
+    inside i = rw (field-inside P b i, ne-eqb b f (λ q. let same : cc P b ≡ cc P f = ap (cc P) q in omega arith)) refl
+
+-- so no field was added to more often than its letter's count and the excess allow
+hits-within : (P R : List ℕ) (f : ℕ) → Bytes R → Stands P f → hits P R f ≤ cc P f + excess P R
+hits-within P R f hR (for-letter l h) = rw (hits-letter P R f l h) (omega (arith, excess-at P R f l))
+hits-within P R f hR (for-others e) = rw e (omega (arith, hits-shared P R hR))
+hits-within P R f hR (for-none l e) = omega (arith, hits-none P R f l e)
+
+-- a field that was added to more often than its letter's count
+record Over (P R : List ℕ) : Type 0 where
+  field : ℕ
+  numbered : field < fields
+  more : cc P field < hits P R field
+
+-- where there is an excess there is one
+over : (P R : List ℕ) → Bytes P → Bytes R → 0 < excess P R → Over P R
+over P [] hP hR h = absurd (let none : excess P [] ≡ 0 = excess-nil P in omega arith)
+over P (b ∷ R) hP hR h = ⊎-elim (before (over P R hP (bytes-tail hR))) now (below-or-not (cc R b) (cc P b))
+  where
+    now : cc P b ≤ cc R b → Over P (b ∷ R)
+    now l =
+        record {
+          field = fieldOf P b;
+          numbered = field-numbered P b (bytes-head hR);
+          more = ltb-true (cc P (fieldOf P b)) (hits P (b ∷ R) (fieldOf P b)) (hits-own P b R hP (bytes-head hR) ∙ le-leb (cc P b) (cc R b) l);
+        }
+
+    before : (0 < excess P R → Over P R) → cc R b < cc P b → Over P (b ∷ R)
+    before earlier l =
+        let same : excess P (b ∷ R) ≡ excess P R + 0 = excess-cons P b R (bytes-head hR) ∙ ap (λ (t : Bool). excess P R + bit t) (lt-leb (cc P b) (cc R b) l) in
+        let was : Over P R = earlier (omega arith) in
+        record {
+          field = was .field;
+          numbered = was .numbered;
+          more = omega (arith, was .more, hits-cons P b R (was .field));
+        }
+
+-- ---- what a layout has to show
+
+-- A letter's start does not go below 0, there is a shared field, and every field still holds what can be added before the scan stops:
+-- k past the letter's count without a stop, and q bytes until the next test
+pub record Roomy (k q : ℕ) (layout : Layout) : Type 0 where
+  pub starts : (v : ℕ) → 0 < v → v + 1 ≤ 2 ^ (layout .own v - 1)
+  pub own-holds : (v : ℕ) → 0 < v → k + q ≤ 2 ^ (layout .own v - 1)
+  pub common-some : 0 < layout .common
+  pub common-holds : k + q ≤ 2 ^ (layout .common - 1)
+
+module _ (P : List ℕ) (k q : ℕ) (layout : Layout) (bytes : Bytes P) (roomy : Roomy k q layout) where
+  -- What a field tells after the bytes R: its top bit is set exactly where it was added to more often than its letter's count, and it did
+  -- not carry into its neighbour
+  record Tells (R : List ℕ) (f : ℕ) : Type 0 where
+    top : topSet (widthOf P layout f) (valueOf P layout R f) ≡ ltb (cc P f) (hits P R f)
+    holds : valueOf P layout R f < 2 ^ widthOf P layout f
+
+  from-kept : (R : List ℕ) (f g : ℕ) → widthOf P layout f ≡ g → Kept g (cc P f) (hits P R f) → Tells R f
+  unfolding valueOf startOf hits
+  from-kept R f g e field = record { top = rw e (field .top); holds = rw e (field .holds) }
+
+  tells : (R : List ℕ) (f : ℕ) → Bytes R → excess P R ≤ k + q → f < fields → Tells R f
+  tells R f hR within l = let at : Stands P f = stands P f l in case at (hits-within P R f hR at)
+    where
+      case : Stands P f → hits P R f ≤ cc P f + excess P R → Tells R f
+      case (for-letter small h) most =
+          from-kept R f (layout .own (cc P f)) (width-own P layout f small h)
+          (kept (layout .own (cc P f)) (cc P f) (hits P R f) (some-bits (layout .own (cc P f)) (cc P f) h (roomy .starts (cc P f) h))
+          (roomy .starts (cc P f) h) (omega (arith, roomy .own-holds (cc P f) h)))
+      case (for-others e) most =
+          let none : cc P f ≡ 0 = ap (cc P) e ∙ cc-out P shared bytes (le-refl 256) in
+          from-kept R f (layout .common) (ap (widthOf P layout) e ∙ width-shared P layout)
+          (rw none
+          (kept (layout .common) 0 (hits P R f) (roomy .common-some) (pow-pos (layout .common - 1)) (omega (arith, roomy .common-holds))))
+      case (for-none small e) most = from-kept R f 0 (width-none P layout f small e) (rw (e, hits-none P R f small e) kept-none)
+
+  -- no field carries into its neighbour before the scan stops
+  pub no-carry : (R : List ℕ) (f : ℕ) → Bytes R → excess P R ≤ k + q → f < fields → valueOf P layout R f < 2 ^ widthOf P layout f
+  no-carry R f hR within l = tells R f hR within l .holds
+
+  -- errors are the excess
+  pub errors-excess : (R : List ℕ) → Bytes R → excess P R ≤ k + q → errors P layout R ≡ excess P R
+  unfolding errors ownTopSet
+  errors-excess [] hR within = sym (excess-nil P)
+  errors-excess (b ∷ R) hR within =
+      let grown : excess P (b ∷ R) ≡ excess P R + bit (leb (cc P b) (cc R b)) = excess-cons P b R (bytes-head hR) in
+      let earlier : errors P layout R ≡ excess P R = errors-excess R (bytes-tail hR) (omega arith) in
+      rw (own-top, earlier) (omega arith)
+    where
+      own-top : ownTopSet P layout (b ∷ R) b ≡ leb (cc P b) (cc R b)
+      own-top =
+          tells (b ∷ R) (fieldOf P b) hR within (field-numbered P b (bytes-head hR)) .top ∙ hits-own P b R bytes (bytes-head hR)
+
+-- ---- the methods' tests
+
+-- methods 2 and 3: a field's top bit is set exactly where there is an excess
+pub overflows-exact : (P : List ℕ) (q : ℕ) (layout : Layout) → Bytes P → Roomy 0 q layout → Exact P 0 q (overflows P layout)
+unfolding overflows
+overflows-exact P q layout hP roomy = record { tells = λ U hU within. ⊎-elim (none U hU within) (found U hU within) (eq-zero-or-pos (excess P U)) }
+  where
+    none : (U : List ℕ) → Bytes U → excess P U ≤ 0 + q → excess P U ≡ 0 → overflows P layout U ≡ ltb 0 (excess P U)
+    none U hU within e =
+        some-none fields (λ f. topSet (widthOf P layout f) (valueOf P layout U f))
+        (λ f l. tells P 0 q layout hP roomy U f hU within l .top ∙ le-ltb (cc P f) (hits P U f) (omega (arith, hits-within P U f hU (stands P f l))))
+        ∙ sym (le-ltb 0 (excess P U) (omega arith))
+
+    found : (U : List ℕ) → Bytes U → excess P U ≤ 0 + q → 0 < excess P U → overflows P layout U ≡ ltb 0 (excess P U)
+    found U hU within h =
+        let o : Over P U = over P U hP hU h in
+        some-at fields (λ f. topSet (widthOf P layout f) (valueOf P layout U f)) (o .field) (o .numbered)
+        (tells P 0 q layout hP roomy U (o .field) hU within (o .numbered) .top ∙ lt-ltb (cc P (o .field)) (hits P U (o .field)) (o .more))
+        ∙ sym (lt-ltb 0 (excess P U) h)
+
+-- method 4: the errors pass k exactly where the excess does
+pub errors-exact : (P : List ℕ) (k q : ℕ) (layout : Layout) → Bytes P → Roomy k q layout → Exact P k q (λ R. ltb k (errors P layout R))
+errors-exact P k q layout hP roomy = record { tells = λ U hU within. ap (ltb k) (errors-excess P k q layout hP roomy U hU within) }
+
+-- ---- the layouts
+
+twice-lg : (v : ℕ) → 2 ^ (lg v + 2 - 1) ≡ 2 * 2 ^ lg v
+twice-lg v = let less : lg v + 2 - 1 ≡ suc (lg v) = omega arith in rw less (pow-succ' 2 (lg v))
+
+-- fields of lg(a(v)) + 2 bits
+lg-roomy : (k q : ℕ) (a : ℕ → ℕ) (common : ℕ) → ((v : ℕ) → v ≤ a v) → ((v : ℕ) → k + q ≤ 2 * max (a v) 1) → 0 < common
+    → k + q ≤ 2 ^ (common - 1) → Roomy k q (record { own = λ v. lg (a v) + 2; common = common })
+lg-roomy k q a common above room some holds =
+    record {
+      starts = λ v h. omega (arith, twice-lg (a v), lg-enough (a v), above v);
+      own-holds = λ v h. omega (arith, twice-lg (a v), lg-enough (a v), room v);
+      common-some = some;
+      common-holds = holds;
+    }
+
+pub bam-roomy : Roomy 0 1 bamLayout
+bam-roomy = lg-roomy 0 1 (λ v. v) 1 le-refl (λ v. omega arith) (lit< tt) (lit≤ tt)
+
+pub bam2-roomy : Roomy 0 2 bam2Layout
+bam2-roomy = lg-roomy 0 2 (λ v. v) 2 le-refl (λ v. omega arith) (lit< tt) (lit≤ tt)
+
+pub abam-roomy : (k : ℕ) → Roomy k 1 (abamLayout k)
+abam-roomy k =
+    lg-roomy k 1 (λ v. max v k) (lg k + 2) (λ v. omega arith) (λ v. omega arith) (omega arith) (omega (arith, twice-lg k, lg-enough k))

@@ -1,0 +1,99 @@
+-- A scan whose test tells an excess over k is sound: what each of methods 2, 3 and 4 has to show is its test's exactness.
+use mathlib.Core.Path.{_≡_, refl, sym, ap, ap₂, _∙_}
+use mathlib.Core.Bool.{Bool, true, false, cond}
+use mathlib.Core.List.{List, [], _∷_, _++_, append-assoc, append-nil, reverse, reverse-cons, reverse-reverse}
+use Prim.Native.Nat.{ℕ, zero, suc, _+_, _-_, _≤_, _<_}
+use native.Mathlib.Nat.{le-trans, le-refl}
+use native.Mathlib.Omega.{arith}
+use lib.Dec.{leb, ltb}
+use lib.ListN.{length, drop, length-append}
+use lib.Seq.{drop-append-seam}
+use borrow.Author.Tests.{ltb-true, ltb-false, le-leb, lt-leb}
+use Rattle.jumbled.specs.Match.{Bytes, excess, matches}
+use Rattle.jumbled.specs.Scan.{Scanned, scan, singles, pairs}
+use Rattle.jumbled.proofs.Counts.{bytes-nil, bytes-append, bytes-front, bytes-back, excess-nil, excess-append, excess-left}
+use Rattle.jumbled.proofs.Drivers.{Sound}
+
+-- The test holds exactly where the bytes read have an excess over k, as long as that is at most k + q: q bytes at most are read between
+-- two tests, and the scan stops at the first that holds
+pub record Exact (P : List ℕ) (k q : ℕ) (stop : List ℕ → Bool) : Type 0 where
+  pub tells : (U : List ℕ) → Bytes U → excess P U ≤ k + q → stop U ≡ ltb k (excess P U)
+
+-- groups of at most q bytes, in the order of reading, that make up the part U of a window
+pub data Groups (q : ℕ) : List ℕ → List (List ℕ) → Type 0 where
+  none : Groups q [] []
+  more : {U : List ℕ} {groups : List (List ℕ)} (group : List ℕ) → length group ≤ q → Groups q U groups → Groups q (U ++ group) (group ∷ groups)
+
+-- what a scan shows of the window W
+record Right (P : List ℕ) (k : ℕ) (W : List ℕ) (w : Scanned) : Type 0 where
+  lists : w .listed ≡ matches P k W
+  passes : 0 < w .offset → k < excess P (drop (w .offset) W)
+
+module _ (P : List ℕ) (k q : ℕ) (stop : List ℕ → Bool) (exact : Exact P k q stop) where
+  scan-right : (m : ℕ) (R U : List ℕ) (groups : List (List ℕ)) → Groups q U groups → Bytes U → Bytes R → excess P R ≤ k
+      → length (U ++ R) ≡ m → Right P k (U ++ R) (scan stop m R groups)
+  unfolding scan matches
+  scan-right m R U groups none hU hR within e =
+      record { lists = sym (le-leb (excess P R) k within); passes = λ l. omega arith }
+  scan-right m R U groups (more {U = left} {groups = later} group small rest) hU hR within e =
+      step (stop (group ++ R)) refl
+      (λ h. scan-right m (group ++ R) left later rest (bytes-front left group hU) bytes-read h (ap length (sym regroup) ∙ e))
+    where
+      regroup : left ++ group ++ R ≡ left ++ (group ++ R)
+      regroup = append-assoc left group R
+
+      bytes-group : Bytes group
+      bytes-group = bytes-back left group hU
+
+      bytes-read : Bytes (group ++ R)
+      bytes-read = bytes-append group R bytes-group hR
+
+      tells : stop (group ++ R) ≡ ltb k (excess P (group ++ R))
+      tells = exact .tells (group ++ R) bytes-read (omega (arith, excess-append P group R bytes-group))
+
+      stopped : Scanned
+      stopped = record { listed = false; offset = m - length (group ++ R); inspections = length (group ++ R) }
+
+      at : m - length (group ++ R) ≡ length left
+      at = omega (arith, ap length regroup, length-append left (group ++ R))
+
+      over : k < excess P (group ++ R) → Right P k (left ++ group ++ R) stopped
+      over h =
+          record {
+            lists = sym (lt-leb (excess P (left ++ group ++ R)) k (rw regroup (le-trans h (excess-left P left (group ++ R)))));
+            passes = λ l. rw (at, regroup, drop-append-seam left (group ++ R)) h;
+          }
+
+      step : (t : Bool) → stop (group ++ R) ≡ t
+          → (excess P (group ++ R) ≤ k → Right P k (left ++ (group ++ R)) (scan stop m (group ++ R) later))
+          → Right P k (left ++ group ++ R) (cond t stopped (scan stop m (group ++ R) later))
+      step true s go = over (ltb-true k (excess P (group ++ R)) (sym tells ∙ s))
+      step false s go = rw regroup (go (ltb-false k (excess P (group ++ R)) (sym tells ∙ s)))
+
+  pub scan-sound : (cut : List ℕ → List (List ℕ)) → ((W : List ℕ) → Groups q W (cut W))
+      → Sound P k (λ W. scan stop (length P) [] (cut W))
+  scan-sound cut groups = record { lists = λ W b e. right W b e .lists; passes = λ W b e. right W b e .passes }
+    where
+      right : (W : List ℕ) → Bytes W → length W ≡ length P → Right P k W (scan stop (length P) [] (cut W))
+      right W b e =
+          rw (append-nil W) at
+          (scan-right (length P) [] W (cut W) (groups W) b bytes-nil (rw (excess-nil P) (omega arith)) (ap length (append-nil W) ∙ e))
+
+-- ---- the two ways of cutting a window
+
+singles-groups : (U : List ℕ) → Groups 1 (reverse U) (singles U)
+unfolding singles
+singles-groups [] = none
+singles-groups (b ∷ U) = rw (reverse-cons b U) (more (b ∷ []) (le-refl 1) (singles-groups U))
+
+pairs-groups : (U : List ℕ) → Groups 2 (reverse U) (pairs U)
+unfolding pairs
+pairs-groups [] = none
+pairs-groups (b ∷ []) = more (b ∷ []) (omega arith) none
+pairs-groups (b ∷ a ∷ U) = rw (reverse-cons b (a ∷ U), reverse-cons a U, append-assoc (reverse U) (a ∷ []) (b ∷ [])) (more (a ∷ b ∷ []) (le-refl 2) (pairs-groups U))
+
+pub by-singles : (W : List ℕ) → Groups 1 W (singles (reverse W))
+by-singles W = rw reverse-reverse at (singles-groups (reverse W))
+
+pub by-pairs : (W : List ℕ) → Groups 2 W (pairs (reverse W))
+by-pairs W = rw reverse-reverse at (pairs-groups (reverse W))
