@@ -39,28 +39,19 @@ pub record MethodTaken (P : List ℕ) (k method : ℕ) : Type 0 where
 pub method-taken : (P : List ℕ) (k method : ℕ) → given (methodTests P k method) ≡ 0 → MethodTaken P k method
 unfolding methodTests
 method-taken P k method e =
+    let third = given-none 2 _ _ e in
+    let fourth = given-none 3 _ _ (third .1) in
+    let fifth = given-none 4 _ _ (fourth .1) in
+    let known = and-true (leb 1 method) (leb method 5) (not-false (leb 1 method && leb method 5) (third .0)) in
     record {
       least = leb-true 1 method (known .0);
       most = leb-true method 5 (known .1);
-      no-tolerance = λ h. zero-of (ltb-false 0 k (and-false (ltb 0 k) (eqb method 2 || eqb method 3 || eqb method 5) (fourth .0) h));
-      narrow = ltb-false 64 (bits P (layoutOf k method)) (fifth .0);
+      no-tolerance = λ h. none (ltb-false _ k (and-false _ _ (fourth .0) h));
+      narrow = ltb-false 64 _ (fifth .0);
     }
   where
-    third : (not (leb 1 method && leb method 5) ≡ false)
-        × (given (test 4 (ltb 0 k && (eqb method 2 || eqb method 3 || eqb method 5)) ∷ test 5 (ltb 64 (bits P (layoutOf k method))) ∷ []) ≡ 0)
-    third = given-none 2 _ _ e
-
-    known : (leb 1 method ≡ true) × (leb method 5 ≡ true)
-    known = and-true (leb 1 method) (leb method 5) (not-false (leb 1 method && leb method 5) (third .0))
-
-    fourth : ((ltb 0 k && (eqb method 2 || eqb method 3 || eqb method 5)) ≡ false) × (given (test 5 (ltb 64 (bits P (layoutOf k method))) ∷ []) ≡ 0)
-    fourth = given-none 3 _ _ (third .1)
-
-    fifth : (ltb 64 (bits P (layoutOf k method)) ≡ false) × (given [] ≡ 0)
-    fifth = given-none 4 _ _ (fourth .1)
-
-    zero-of : k ≤ 0 → k ≡ 0
-    zero-of h = omega arith
+    none : k ≤ 0 → k ≡ 0
+    none h = omega arith
 
 -- 1 to 5 do not apply
 pub record Admitted (P : List ℕ) (k method : ℕ) : Type 0 where
@@ -72,6 +63,9 @@ pub record Admitted (P : List ℕ) (k method : ℕ) : Type 0 where
 pub admitted : (P : List ℕ) (k method : ℕ) → given (patternTests P k method) ≡ 0 → Admitted P k method
 unfolding patternTests
 admitted P k method e =
+    let one = given-none 0 _ _ e in
+    let second = given-none 1 _ _ (one .1) in
+    let sizes = or-false (eqb (length P) 0) (ltb 64 (length P)) (one .0) in
     record {
       some = positive (eqb-false (length P) 0 (sizes .0));
       short = ltb-false 64 (length P) (sizes .1);
@@ -79,14 +73,5 @@ admitted P k method e =
       taken = method-taken P k method (second .1);
     }
   where
-    one : ((eqb (length P) 0 || ltb 64 (length P)) ≡ false) × (given (test 2 (leb (length P) k) ∷ methodTests P k method) ≡ 0)
-    one = given-none 0 _ _ e
-
-    sizes : (eqb (length P) 0 ≡ false) × (ltb 64 (length P) ≡ false)
-    sizes = or-false (eqb (length P) 0) (ltb 64 (length P)) (one .0)
-
-    second : (leb (length P) k ≡ false) × (given (methodTests P k method) ≡ 0)
-    second = given-none 1 _ _ (one .1)
-
     positive : (length P ≡ 0 → ⊥) → 0 < length P
     positive h = omega arith

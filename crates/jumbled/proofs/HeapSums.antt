@@ -12,8 +12,8 @@ use lib.Arith.{digits-lt, digits-div, digits-mod}
 use lib.ListN.{length}
 use borrow.Author.Tests.{eq-eqb, ne-eqb, eqb-true, eqb-false, leb-true, le-leb, lt-leb}
 use Rattle.jumbled.specs.Match.{Bytes, bit, cc, sum, excess, matches}
-use Rattle.jumbled.specs.Heap.{occurs, rank, heapValue, heapSum, exact}
-use Rattle.jumbled.specs.Scan.{Judged}
+use Rattle.jumbled.specs.Heap.{occurs, rank, base, heapValue, heapSum, exact}
+use Rattle.jumbled.specs.Scan.{Judged, unverified}
 use Rattle.jumbled.specs.Steps.{hcamJudged}
 use Rattle.jumbled.proofs.Sums.{below-or-not, sum-zero, sum-suc, sum-ext, sum-add, sum-mono, sum-zeros, sum-point}
 use Rattle.jumbled.proofs.Counts.{bytes-head, bytes-tail, cc-nil, cc-cons, cc-length, counts-of-excess, counts-of-enough, excess-of-counts}
@@ -98,47 +98,42 @@ place-same d e w u place hw hu q =
       sym (digits-mod d hw) ∙ ap (λ (n : ℕ). n % place) turned ∙ digits-mod e hu,
     )
 
-module _ (P : List ℕ) (fits : (length P + 1) ^ rank P 256 ≤ 2 ^ 64) where
-  base : ℕ
-  base = length P + 1
+module _ (P : List ℕ) (fits : base P ^ rank P 256 ≤ 2 ^ 64) where
+  base-step : (e : ℕ) → base P ^ suc e ≡ base P * base P ^ e
+  base-step e = pow-succ' (base P) e
 
-  base-step : (e : ℕ) → base ^ suc e ≡ base * base ^ e
-  base-step e = pow-succ' base e
-
-  base-pos : (e : ℕ) → 0 < base ^ e
-  unfolding base
-  base-pos e = one-le-pow e (length P + 1) (omega arith)
+  base-pos : (e : ℕ) → 0 < base P ^ e
+  base-pos e = one-le-pow e (base P) (omega arith)
 
   -- no power wraps
-  value-letter : (c : ℕ) → c < 256 → 0 < cc P c → heapValue P c ≡ base ^ rank P c
-  unfolding heapValue base
+  value-letter : (c : ℕ) → c < 256 → 0 < cc P c → heapValue P c ≡ base P ^ rank P c
+  unfolding heapValue
   value-letter c l h = rw (occurs-yes P c h) (mod-eq-of-lt (lt-of-lt-of-le smaller (le-trans higher fits)))
     where
       rest : suc c + (256 - suc c) ≡ 256
       rest = omega arith
 
-      higher : base ^ suc (rank P c) ≤ base ^ rank P 256
+      higher : base P ^ suc (rank P c) ≤ base P ^ rank P 256
       higher =
           pow-le-pow-right (omega arith)
           (rw (ap (rank P) rest) at (rw (rank-letter P c h) at (rank-grows P (suc c) (256 - suc c))))
 
-      smaller : base ^ rank P c < base ^ suc (rank P c)
+      smaller : base P ^ rank P c < base P ^ suc (rank P c)
       smaller =
           rw (base-step (rank P c))
-          (omega (arith, base-pos (rank P c), mul-le-mul-right (base ^ rank P c) at-least-two))
+          (omega (arith, base-pos (rank P c), mul-le-mul-right (base P ^ rank P c) at-least-two))
         where
-          at-least-two : 2 ≤ length P + 1
+          at-least-two : 2 ≤ base P
           at-least-two = omega (arith, cc-length P c)
 
   -- the digits below n make a number below (m + 1)^(the letters below n)
-  weigh-below : (W : List ℕ) → length W ≤ length P → (n : ℕ) → n ≤ 256 → weigh P W n < base ^ rank P n
-  unfolding base
+  weigh-below : (W : List ℕ) → length W ≤ length P → (n : ℕ) → n ≤ 256 → weigh P W n < base P ^ rank P n
   weigh-below W short zero l = rw (weigh-zero P W) (base-pos (rank P 0))
   weigh-below W short (suc n) l =
-      let below : weigh P W n < base ^ rank P n = weigh-below W short n (omega arith) in
+      let below : weigh P W n < base P ^ rank P n = weigh-below W short n (omega arith) in
       ⊎-elim (λ (e : cc P n ≡ 0). rw (weigh-suc P W n, value-other P n e, rank-other P n e, mul-zero (cc W n), add-zero (weigh P W n)) below)
       (λ (h : 0 < cc P n).
-      rw (weigh-suc P W n, value-letter n l h, rank-letter P n h, base-step (rank P n), add-comm (weigh P W n) (cc W n * base ^ rank P n))
+      rw (weigh-suc P W n, value-letter n l h, rank-letter P n h, base-step (rank P n), add-comm (weigh P W n) (cc W n * base P ^ rank P n))
       (digits-lt (omega (arith, cc-length W n)) below)) (eq-zero-or-pos (cc P n))
 
   -- so two windows that weigh the same have the same digits
@@ -151,7 +146,7 @@ module _ (P : List ℕ) (fits : (length P + 1) ^ rank P 256 ≤ 2 ^ 64) where
       digits-same W U shortW shortU n (omega arith) (sym (other W o) ∙ e ∙ other U o) c (earlier o (below-or-not c n)) h)
       (λ (o : 0 < cc P n).
       let place : (cc W n ≡ cc U n) × (weigh P W n ≡ weigh P U n) =
-      place-same (cc W n) (cc U n) (weigh P W n) (weigh P U n) (base ^ rank P n) (weigh-below W shortW n (omega arith))
+      place-same (cc W n) (cc U n) (weigh P W n) (weigh P U n) (base P ^ rank P n) (weigh-below W shortW n (omega arith))
       (weigh-below U shortU n (omega arith)) (sym (letter W o) ∙ e ∙ letter U o) in
       ⊎-elim (λ (k : c < n). digits-same W U shortW shortU n (omega arith) (place .1) c k h)
       (λ (k : n ≤ c). let same : c ≡ n = omega arith in rw same (place .0)) (below-or-not c n)) (eq-zero-or-pos (cc P n))
@@ -159,7 +154,7 @@ module _ (P : List ℕ) (fits : (length P + 1) ^ rank P 256 ≤ 2 ^ 64) where
       other : (Y : List ℕ) → cc P n ≡ 0 → weigh P Y (suc n) ≡ weigh P Y n
       other Y o = rw (weigh-suc P Y n, value-other P n o, mul-zero (cc Y n)) (add-zero (weigh P Y n))
 
-      letter : (Y : List ℕ) → 0 < cc P n → weigh P Y (suc n) ≡ weigh P Y n + cc Y n * base ^ rank P n
+      letter : (Y : List ℕ) → 0 < cc P n → weigh P Y (suc n) ≡ weigh P Y n + cc Y n * base P ^ rank P n
       letter Y o = rw (weigh-suc P Y n, value-letter n l o) refl
 
       earlier : cc P n ≡ 0 → (c < n) ⊎ (n ≤ c) → c < n
@@ -168,7 +163,6 @@ module _ (P : List ℕ) (fits : (length P + 1) ^ rank P 256 ≤ 2 ^ 64) where
 
   -- a candidate's counts are the pattern's
   candidate-counts : (W : List ℕ) → Bytes P → Bytes W → length W ≡ length P → heapSum P W ≡ heapSum P P → (c : ℕ) → c < 256 → cc W c ≡ cc P c
-  unfolding base
   candidate-counts W hP hW same e = counts-of-enough P W hP hW same (λ c l. ⊎-elim (λ (o : cc P c ≡ 0). omega arith) (λ (o : 0 < cc P c). le-of-eq (sym (digits-same W P (le-of-eq same) (le-refl (length P)) 256 (le-refl 256) weighs c l o))) (eq-zero-or-pos (cc P c)))
     where
       whole : (Y : List ℕ) → Bytes Y → length Y ≤ length P → heapSum P Y ≡ weigh P Y 256
@@ -186,7 +180,7 @@ module _ (P : List ℕ) (hP : Bytes P) (W : List ℕ) (hW : Bytes W) (same : len
   candidate-matches x e =
       le-leb (excess P W) 0
       (le-of-eq
-      (excess-of-counts P W (candidate-counts P (leb-true ((length P + 1) ^ rank P 256) (2 ^ 64) x) W hP hW same e)))
+      (excess-of-counts P W (candidate-counts P (leb-true (base P ^ rank P 256) (2 ^ 64) x) W hP hW same e)))
 
   -- and in any case a window that is no candidate does not match
   pub others-differ : (heapSum P W ≡ heapSum P P → ⊥) → matches P 0 W ≡ false
@@ -199,12 +193,14 @@ module _ (P : List ℕ) (hP : Bytes P) (W : List ℕ) (hW : Bytes W) (same : len
   unfolding hcamJudged
   hcam-judges = case (eqb (heapSum P W) (heapSum P P)) refl
     where
-      certain : (x : Bool) → exact P ≡ x → heapSum P W ≡ heapSum P P
-          → (cond {A = Judged} x (record { listed = true; verification = 0 }) (record { listed = matches P 0 W; verification = length P })) .listed ≡ matches P 0 W
+      verified : Judged
+      verified = record { listed = matches P 0 W; verification = length P }
+
+      certain : (x : Bool) → exact P ≡ x → heapSum P W ≡ heapSum P P → cond x (unverified true) verified .listed ≡ matches P 0 W
       certain true x e = sym (candidate-matches x e)
       certain false x e = refl
 
       case : (t : Bool) → eqb (heapSum P W) (heapSum P P) ≡ t
-          → (cond {A = Judged} t (cond (exact P) (record { listed = true; verification = 0 }) (record { listed = matches P 0 W; verification = length P })) (record { listed = false; verification = 0 })) .listed ≡ matches P 0 W
+          → cond t (cond (exact P) (unverified true) verified) (unverified false) .listed ≡ matches P 0 W
       case true q = certain (exact P) refl (eqb-true (heapSum P W) (heapSum P P) q)
       case false q = sym (others-differ (eqb-false (heapSum P W) (heapSum P P) q))

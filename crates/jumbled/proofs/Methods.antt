@@ -46,24 +46,24 @@ module _ (P : List ℕ) (k : ℕ) (T : List ℕ) (hT : Bytes T) where
       backward-lists P k T hT scanned sound 0 (starts (length P) T) 0 (le-of-eq (zero-add (starts (length P) T))) (λ d l. absurd (not-suc-le-zero l))
 
   forward-positions : (judged : List ℕ → Judged) → ((W : List ℕ) → Bytes W → length W ≡ length P → judged W .listed ≡ matches P k W)
-      → forward judged (length P) T 0 (starts (length P) T) (length P) .positions ≡ positions P k T
+      → (cost : ℕ) → forward judged (length P) T 0 (starts (length P) T) cost .positions ≡ positions P k T
   unfolding positions
-  forward-positions judged sound =
-      forward-lists P k T hT judged sound 0 (starts (length P) T) (length P) (le-of-eq (zero-add (starts (length P) T)))
+  forward-positions judged sound cost =
+      forward-lists P k T hT judged sound 0 (starts (length P) T) cost (le-of-eq (zero-add (starts (length P) T)))
 
 -- ---- the theorem
 
 by-method : (P : List ℕ) (k method : ℕ) (T : List ℕ) → Bytes P → Bytes T → MethodTaken P k method → steps P k method T .positions ≡ positions P k T
 unfolding steps countJudged
 by-method P k zero T hP hT taken = absurd (not-suc-le-zero (taken .least))
-by-method P k (suc zero) T hP hT taken = forward-positions P k T hT (countJudged P k) (λ W b e. refl)
+by-method P k (suc zero) T hP hT taken = forward-positions P k T hT (countJudged P k) (λ W b e. refl) (length P)
 by-method P k (suc (suc zero)) T hP hT taken =
     rw (taken .no-tolerance refl) (backward-positions P 0 T hT (bamScan P) (bam-sound P hP))
 by-method P k (suc (suc (suc zero))) T hP hT taken =
     rw (taken .no-tolerance refl) (backward-positions P 0 T hT (bam2Scan P) (bam2-sound P hP))
 by-method P k (suc (suc (suc (suc zero)))) T hP hT taken = backward-positions P k T hT (abamScan P k) (abam-sound P k hP)
 by-method P k (suc (suc (suc (suc (suc zero))))) T hP hT taken =
-    rw (taken .no-tolerance refl) (forward-positions P 0 T hT (hcamJudged P) (λ W b e. hcam-judges P hP W b e))
+    rw (taken .no-tolerance refl) (forward-positions P 0 T hT (hcamJudged P) (λ W b e. hcam-judges P hP W b e) (length P))
 by-method P k (suc (suc (suc (suc (suc (suc n)))))) T hP hT taken = absurd (let most = taken .most in omega arith)
 
 -- Whatever is not refused by 1 to 5: the positions of the method's steps are exactly the listed positions

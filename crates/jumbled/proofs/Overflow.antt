@@ -267,26 +267,28 @@ errors-exact P k q layout hP roomy = record { tells = λ U hU within. ap (ltb k)
 
 -- ---- the layouts
 
-twice-lg : (v : ℕ) → 2 ^ (lg v + 2 - 1) ≡ 2 * 2 ^ lg v
-twice-lg v = let less : lg v + 2 - 1 ≡ suc (lg v) = omega arith in rw less (pow-succ' 2 (lg v))
-
--- fields of lg(a(v)) + 2 bits
-lg-roomy : (k q : ℕ) (a : ℕ → ℕ) (common : ℕ) → ((v : ℕ) → v ≤ a v) → ((v : ℕ) → k + q ≤ 2 * max (a v) 1) → 0 < common
-    → k + q ≤ 2 ^ (common - 1) → Roomy k q (record { own = λ v. lg (a v) + 2; common = common })
-lg-roomy k q a common above room some holds =
-    record {
-      starts = λ v h. omega (arith, twice-lg (a v), lg-enough (a v), above v);
-      own-holds = λ v h. omega (arith, twice-lg (a v), lg-enough (a v), room v);
-      common-some = some;
-      common-holds = holds;
-    }
+-- a field of lg(v) + 2 bits has 2^(lg(v) + 1), at least twice v and at least 2, below its top bit
+doubled-lg : (v : ℕ) → 2 * max v 1 ≤ 2 ^ (lg v + 2 - 1)
+doubled-lg v = let less : lg v + 2 - 1 ≡ suc (lg v) = omega arith in rw (less, pow-succ' 2 (lg v)) (omega (arith, lg-enough v))
 
 pub bam-roomy : Roomy 0 1 bamLayout
-bam-roomy = lg-roomy 0 1 (λ v. v) 1 le-refl (λ v. omega arith) (lit< tt) (lit≤ tt)
+bam-roomy =
+    record {
+      starts = λ v h. omega (arith, doubled-lg v);
+      own-holds = λ v h. omega (arith, doubled-lg v);
+      common-some = omega arith;
+      common-holds = omega arith;
+    }
 
 pub bam2-roomy : Roomy 0 2 bam2Layout
-bam2-roomy = lg-roomy 0 2 (λ v. v) 2 le-refl (λ v. omega arith) (lit< tt) (lit≤ tt)
+bam2-roomy =
+    record { starts = bam-roomy .starts; own-holds = λ v h. omega (arith, doubled-lg v); common-some = omega arith; common-holds = omega arith }
 
 pub abam-roomy : (k : ℕ) → Roomy k 1 (abamLayout k)
 abam-roomy k =
-    lg-roomy k 1 (λ v. max v k) (lg k + 2) (λ v. omega arith) (λ v. omega arith) (omega arith) (omega (arith, twice-lg k, lg-enough k))
+    record {
+      starts = λ v h. omega (arith, doubled-lg (max v k));
+      own-holds = λ v h. omega (arith, doubled-lg (max v k));
+      common-some = omega arith;
+      common-holds = omega (arith, doubled-lg k);
+    }

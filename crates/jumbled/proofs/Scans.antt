@@ -10,7 +10,7 @@ use lib.ListN.{length, drop, length-append}
 use lib.Seq.{drop-append-seam}
 use borrow.Author.Tests.{ltb-true, ltb-false, le-leb, lt-leb}
 use Rattle.jumbled.specs.Match.{Bytes, excess, matches}
-use Rattle.jumbled.specs.Scan.{Scanned, scan, singles, pairs}
+use Rattle.jumbled.specs.Scan.{Scanned, stopped, scan, singles, pairs}
 use Rattle.jumbled.proofs.Counts.{bytes-nil, bytes-append, bytes-front, bytes-back, excess-nil, excess-append, excess-left}
 use Rattle.jumbled.proofs.Drivers.{Sound}
 
@@ -51,13 +51,10 @@ module _ (P : List ℕ) (k q : ℕ) (stop : List ℕ → Bool) (exact : Exact P 
       tells : stop (group ++ R) ≡ ltb k (excess P (group ++ R))
       tells = exact .tells (group ++ R) bytes-read (omega (arith, excess-append P group R bytes-group))
 
-      stopped : Scanned
-      stopped = record { listed = false; offset = m - length (group ++ R); inspections = length (group ++ R) }
-
       at : m - length (group ++ R) ≡ length left
       at = omega (arith, ap length regroup, length-append left (group ++ R))
 
-      over : k < excess P (group ++ R) → Right P k (left ++ group ++ R) stopped
+      over : k < excess P (group ++ R) → Right P k (left ++ group ++ R) (stopped m (group ++ R))
       over h =
           record {
             lists = sym (lt-leb (excess P (left ++ group ++ R)) k (rw regroup (le-trans h (excess-left P left (group ++ R)))));
@@ -66,7 +63,7 @@ module _ (P : List ℕ) (k q : ℕ) (stop : List ℕ → Bool) (exact : Exact P 
 
       step : (t : Bool) → stop (group ++ R) ≡ t
           → (excess P (group ++ R) ≤ k → Right P k (left ++ (group ++ R)) (scan stop m (group ++ R) later))
-          → Right P k (left ++ group ++ R) (cond t stopped (scan stop m (group ++ R) later))
+          → Right P k (left ++ group ++ R) (cond t (stopped m (group ++ R)) (scan stop m (group ++ R) later))
       step true s go = over (ltb-true k (excess P (group ++ R)) (sym tells ∙ s))
       step false s go = rw regroup (go (ltb-false k (excess P (group ++ R)) (sym tells ∙ s)))
 

@@ -31,14 +31,19 @@ pub record Scanned : Type 0 where
   pub offset : ℕ
   pub inspections : ℕ
 
+-- All of the window R was read
+abbrev pub completed : List ℕ → Scanned
+completed R = record { listed = true; offset = 0; inspections = length R }
+
+-- The scan stopped at the first byte of the part R of a window of m bytes, which is all that was read
+abbrev pub stopped : ℕ → List ℕ → Scanned
+stopped m R = record { listed = false; offset = m - length R; inspections = length R }
+
 -- A window is read from its right end, step by step. Each step takes a group of bytes, the groups standing in the order of reading; R is
 -- the part of the window read so far, as it stands in the text. Where the test holds of R after a step, the scan stops at R's first byte.
 unfoldable pub scan : (List ℕ → Bool) → ℕ → List ℕ → List (List ℕ) → Scanned
-scan stop m R [] = record { listed = true; offset = 0; inspections = length R }
-scan stop m R (group ∷ groups) =
-    cond (stop (group ++ R))
-    (record { listed = false; offset = m - length (group ++ R); inspections = length (group ++ R) })
-    (scan stop m (group ++ R) groups)
+scan stop m R [] = completed R
+scan stop m R (group ∷ groups) = cond (stop (group ++ R)) (stopped m (group ++ R)) (scan stop m (group ++ R) groups)
 
 -- A window's bytes, the rightmost first, in groups of one (methods 2 and 4)
 unfoldable pub singles : List ℕ → List (List ℕ)
@@ -65,6 +70,9 @@ backward scanned m T s (suc left) zero =
 pub record Judged : Type 0 where
   pub listed : Bool
   pub verification : ℕ
+
+abbrev pub unverified : Bool → Judged
+unverified listed = record { listed = listed; verification = 0 }
 
 -- The driver of the forward methods, from the window start s on: `left` window starts are left, and it takes `cost` inspections to have the
 -- window at s: m for the first window, one for each further one.

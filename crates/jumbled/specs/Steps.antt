@@ -6,13 +6,13 @@ use mathlib.Core.List.{List, [], _∷_, reverse}
 use lib.Dec.{ltb, eqb}
 use lib.ListN.{length}
 use Rattle.jumbled.specs.Match.{matches, starts}
-use Rattle.jumbled.specs.Scan.{Result, nothing, Scanned, scan, singles, pairs, backward, Judged, forward}
+use Rattle.jumbled.specs.Scan.{Result, nothing, Scanned, scan, singles, pairs, backward, Judged, unverified, forward}
 use Rattle.jumbled.specs.Fields.{bamLayout, bam2Layout, abamLayout, overflows, errors}
 use Rattle.jumbled.specs.Heap.{heapSum, exact}
 
 -- 1: a sliding window; the window is judged by its counts
 unfoldable pub countJudged : List ℕ → ℕ → List ℕ → Judged
-countJudged P k W = record { listed = matches P k W; verification = 0 }
+countJudged P k W = unverified (matches P k W)
 
 -- 2: one byte a step; stops where a field's top bit is set
 unfoldable pub bamScan : List ℕ → List ℕ → Scanned
@@ -30,8 +30,7 @@ abamScan P k W = scan (λ R. ltb k (errors P (abamLayout k) R)) (length P) [] (s
 unfoldable pub hcamJudged : List ℕ → List ℕ → Judged
 hcamJudged P W =
     cond (eqb (heapSum P W) (heapSum P P))
-    (cond (exact P) (record { listed = true; verification = 0 }) (record { listed = matches P 0 W; verification = length P }))
-    (record { listed = false; verification = 0 })
+    (cond (exact P) (unverified true) (record { listed = matches P 0 W; verification = length P })) (unverified false)
 
 -- The steps of a method, by its number, over a text; a number that is no method's yields nothing
 unfoldable pub steps : List ℕ → ℕ → ℕ → List ℕ → Result
