@@ -16,20 +16,8 @@ use Rattle.jumbled.specs.Heap.{occurs, rank, base, heapValue, heapSum, e
 use Rattle.jumbled.specs.Scan.{Judged, unverified}
 use Rattle.jumbled.specs.Steps.{hcamJudged}
 use Rattle.jumbled.proofs.Sums.{below-or-not, sum-zero, sum-suc, sum-ext, sum-add, sum-mono, sum-zeros, sum-point}
+use Rattle.jumbled.proofs.Ranks.{rank-next, rank-some, rank-none, heapValue-some, heapValue-none}
 use Rattle.jumbled.proofs.Counts.{bytes-head, bytes-tail, cc-nil, cc-cons, cc-length, counts-of-excess, counts-of-enough, excess-of-counts}
-
-pub occurs-yes : (P : List ℕ) (c : ℕ) → 0 < cc P c → occurs P c ≡ true
-unfolding occurs
-occurs-yes P c h = rw (ne-eqb (cc P c) 0 (λ e. omega arith)) refl
-
-pub occurs-no : (P : List ℕ) (c : ℕ) → cc P c ≡ 0 → occurs P c ≡ false
-unfolding occurs
-occurs-no P c e = rw (eq-eqb (cc P c) 0 e) refl
-
--- one letter more
-pub rank-suc : (P : List ℕ) (c : ℕ) → rank P (suc c) ≡ rank P c + bit (occurs P c)
-unfolding rank
-rank-suc P c = sum-suc c (λ d. bit (occurs P d))
 
 -- the values of the bytes below n, each as often as W has it
 weigh : List ℕ → List ℕ → ℕ → ℕ
@@ -78,17 +66,14 @@ sum-of-counts P W hP hW h =
 
 rank-grows : (P : List ℕ) (c j : ℕ) → rank P c ≤ rank P (c + j)
 rank-grows P c zero = le-of-eq (ap (rank P) (sym (add-zero c)))
-rank-grows P c (suc j) = le-trans (rank-grows P c j) (rw (add-suc c j, rank-suc P (c + j)) (omega arith))
+rank-grows P c (suc j) =
+    le-trans (rank-grows P c j) (rw (add-suc c j, ← add-one (c + j), rank-next P (c + j)) (omega arith))
 
 rank-letter : (P : List ℕ) (c : ℕ) → 0 < cc P c → rank P (suc c) ≡ suc (rank P c)
-rank-letter P c h = rank-suc P c ∙ ap (λ (t : Bool). rank P c + bit t) (occurs-yes P c h) ∙ add-one (rank P c)
+rank-letter P c h = ap (rank P) (sym (add-one c)) ∙ rank-some P c h ∙ add-one (rank P c)
 
 rank-other : (P : List ℕ) (c : ℕ) → cc P c ≡ 0 → rank P (suc c) ≡ rank P c
-rank-other P c e = rank-suc P c ∙ ap (λ (t : Bool). rank P c + bit t) (occurs-no P c e) ∙ add-zero (rank P c)
-
-value-other : (P : List ℕ) (c : ℕ) → cc P c ≡ 0 → heapValue P c ≡ 0
-unfolding heapValue
-value-other P c e = rw (occurs-no P c e) refl
+rank-other P c e = ap (rank P) (sym (add-one c)) ∙ rank-none P c e
 
 -- a digit d above a number w below the place's value
 place-same : (d e w u place : ℕ) → w < place → u < place → w + d * place ≡ u + e * place → (d ≡ e) × (w ≡ u)
@@ -107,8 +92,7 @@ module _ (P : List ℕ) (fits : base P ^ rank P 256 ≤ 2 ^ 64) where
 
   -- no power wraps
   value-letter : (c : ℕ) → c < 256 → 0 < cc P c → heapValue P c ≡ base P ^ rank P c
-  unfolding heapValue
-  value-letter c l h = rw (occurs-yes P c h) (mod-eq-of-lt (lt-of-lt-of-le smaller (le-trans higher fits)))
+  value-letter c l h = heapValue-some P c h ∙ (mod-eq-of-lt (lt-of-lt-of-le smaller (le-trans higher fits)))
     where
       rest : suc c + (256 - suc c) ≡ 256
       rest = omega arith
@@ -131,7 +115,7 @@ module _ (P : List ℕ) (fits : base P ^ rank P 256 ≤ 2 ^ 64) where
   weigh-below W short zero l = rw (weigh-zero P W) (base-pos (rank P 0))
   weigh-below W short (suc n) l =
       let below : weigh P W n < base P ^ rank P n = weigh-below W short n (omega arith) in
-      ⊎-elim (λ (e : cc P n ≡ 0). rw (weigh-suc P W n, value-other P n e, rank-other P n e, mul-zero (cc W n), add-zero (weigh P W n)) below)
+      ⊎-elim (λ (e : cc P n ≡ 0). rw (weigh-suc P W n, heapValue-none P n e, rank-other P n e, mul-zero (cc W n), add-zero (weigh P W n)) below)
       (λ (h : 0 < cc P n).
       rw (weigh-suc P W n, value-letter n l h, rank-letter P n h, base-step (rank P n), add-comm (weigh P W n) (cc W n * base P ^ rank P n))
       (digits-lt (omega (arith, cc-length W n)) below)) (eq-zero-or-pos (cc P n))
@@ -152,7 +136,7 @@ module _ (P : List ℕ) (fits : base P ^ rank P 256 ≤ 2 ^ 64) where
       (λ (k : n ≤ c). let same : c ≡ n = omega arith in rw same (place .0)) (below-or-not c n)) (eq-zero-or-pos (cc P n))
     where
       other : (Y : List ℕ) → cc P n ≡ 0 → weigh P Y (suc n) ≡ weigh P Y n
-      other Y o = rw (weigh-suc P Y n, value-other P n o, mul-zero (cc Y n)) (add-zero (weigh P Y n))
+      other Y o = rw (weigh-suc P Y n, heapValue-none P n o, mul-zero (cc Y n)) (add-zero (weigh P Y n))
 
       letter : (Y : List ℕ) → 0 < cc P n → weigh P Y (suc n) ≡ weigh P Y n + cc Y n * base P ^ rank P n
       letter Y o = rw (weigh-suc P Y n, value-letter n l o) refl

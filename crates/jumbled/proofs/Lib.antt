@@ -5,6 +5,7 @@ pub mod Lg
 pub mod Drivers
 pub mod Scans
 pub mod Overflow
+pub mod Ranks
 pub mod HeapSums
 pub mod Admission
 pub mod Methods

@@ -56,14 +56,14 @@ module _ (P : List ℕ) (k : ℕ) (T : List ℕ) (hT : Bytes T) where
 by-method : (P : List ℕ) (k method : ℕ) (T : List ℕ) → Bytes P → Bytes T → MethodTaken P k method → steps P k method T .positions ≡ positions P k T
 unfolding steps countJudged
 by-method P k zero T hP hT taken = absurd (not-suc-le-zero (taken .least))
-by-method P k (suc zero) T hP hT taken = forward-positions P k T hT (countJudged P k) (λ W b e. refl) (length P)
+by-method P k (suc zero) T hP hT taken = forward-positions P k T hT (countJudged P k) (λ W b e. refl) _
 by-method P k (suc (suc zero)) T hP hT taken =
     rw (taken .no-tolerance refl) (backward-positions P 0 T hT (bamScan P) (bam-sound P hP))
 by-method P k (suc (suc (suc zero))) T hP hT taken =
     rw (taken .no-tolerance refl) (backward-positions P 0 T hT (bam2Scan P) (bam2-sound P hP))
 by-method P k (suc (suc (suc (suc zero)))) T hP hT taken = backward-positions P k T hT (abamScan P k) (abam-sound P k hP)
 by-method P k (suc (suc (suc (suc (suc zero))))) T hP hT taken =
-    rw (taken .no-tolerance refl) (forward-positions P 0 T hT (hcamJudged P) (λ W b e. hcam-judges P hP W b e) (length P))
+    rw (taken .no-tolerance refl) (forward-positions P 0 T hT (hcamJudged P) (λ W b e. hcam-judges P hP W b e) _)
 by-method P k (suc (suc (suc (suc (suc (suc n)))))) T hP hT taken = absurd (let most = taken .most in omega arith)
 
 -- Whatever is not refused by 1 to 5: the positions of the method's steps are exactly the listed positions

@@ -14,7 +14,7 @@ use Rattle.parikh.proofs.Filled.{filled, filled-none, filled-all, filled-set, f
 use Rattle.heap.specs.declared.Power.{Power}
 use Rattle.heap.specs.Powers.{IsPower}
 use Rattle.heap.proofs.Powers.{power-zero}
-use Rattle.heap.proofs.Ranks.{rank-zero, rank-some, rank-none, heapValue-some, heapValue-none, exact-rank}
+use Rattle.jumbled.proofs.Ranks.{rank-zero, rank-some, rank-none, heapValue-some, heapValue-none, exact-rank}
 use Rattle.heap.proofs.heap_table.Statement.{statement}
 use Rattle.heap.proofs.heap_table.Tie as tie
 

@@ -7,11 +7,10 @@ use native.Mathlib.Nat.{add-zero, mod-lt}
 use native.Mathlib.Numerals.{add-one}
 use native.Mathlib.Omega.{arith}
 use lib.Dec.{leb, lit<}
-use lib.ListN.{length}
 use borrow.Author.Tests.{eq-eqb, ne-eqb}
 use Rattle.jumbled.specs.Match.{bit, cc, sum}
-use Rattle.jumbled.specs.Heap.{occurs, rank, heapValue, exact}
+use Rattle.jumbled.specs.Heap.{occurs, rank, base, heapValue, exact}
 use Rattle.jumbled.proofs.Sums.{sum-zero, sum-suc}
 
 pub occurs-some : (P : List ℕ) (c : ℕ) → 0 < cc P c → occurs P c ≡ true
 unfolding occurs
@@ -25,7 +24,8 @@ pub rank-zero : (P : List ℕ) → rank P 0 ≡ 0
 unfolding rank
 rank-zero P = sum-zero (λ d. bit (occurs P d))
 
-rank-next : (P : List ℕ) (c : ℕ) → rank P (c + 1) ≡ rank P c + bit (occurs P c)
+-- one byte further
+pub rank-next : (P : List ℕ) (c : ℕ) → rank P (c + 1) ≡ rank P c + bit (occurs P c)
 unfolding rank
 rank-next P c = ap (λ (n : ℕ). sum n (λ d. bit (occurs P d))) (add-one c) ∙ sum-suc c (λ d. bit (occurs P d))
 
@@ -35,7 +35,7 @@ rank-some P c h = rank-next P c ∙ ap (λ (t : Bool). rank P c + bit t) (occurs
 pub rank-none : (P : List ℕ) (c : ℕ) → cc P c ≡ 0 → rank P (c + 1) ≡ rank P c
 rank-none P c h = rank-next P c ∙ ap (λ (t : Bool). rank P c + bit t) (occurs-none P c h) ∙ add-zero (rank P c)
 
-pub heapValue-some : (P : List ℕ) (c : ℕ) → 0 < cc P c → heapValue P c ≡ (length P + 1) ^ rank P c % 2 ^ 64
+pub heapValue-some : (P : List ℕ) (c : ℕ) → 0 < cc P c → heapValue P c ≡ base P ^ rank P c % 2 ^ 64
 unfolding heapValue
 heapValue-some P c h = rw (occurs-some P c h) refl
 
@@ -47,10 +47,10 @@ pub heapValue-below : (P : List ℕ) (c : ℕ) → heapValue P c < 2 ^ 64
 unfolding heapValue
 heapValue-below P c = case (occurs P c)
   where
-    case : (t : Bool) → cond t ((length P + 1) ^ rank P c % 2 ^ 64) 0 < 2 ^ 64
-    case true = mod-lt ((length P + 1) ^ rank P c) (lit< tt)
+    case : (t : Bool) → cond t (base P ^ rank P c % 2 ^ 64) 0 < 2 ^ 64
+    case true = mod-lt (base P ^ rank P c) (lit< tt)
     case false = lit< tt
 
-pub exact-rank : (P : List ℕ) → exact P ≡ leb ((length P + 1) ^ rank P 256) (2 ^ 64)
+pub exact-rank : (P : List ℕ) → exact P ≡ leb (base P ^ rank P 256) (2 ^ 64)
 unfolding exact
 exact-rank P = refl
