@@ -3,6 +3,7 @@ pub mod Sums
 pub mod Counts
 pub mod Lg
 pub mod Drivers
+pub mod Cuts
 pub mod Scans
 pub mod Overflow
 pub mod Ranks

@@ -64,6 +64,12 @@ backward scanned m T s (suc left) zero =
     let w : Scanned = scanned (window m T s) in
     note (w .listed) s (w .inspections) (backward scanned m T (suc s) left (w .offset))
 
+-- Where the driver stands after these `left` window starts: how many of those that follow are still to be passed over
+unfoldable pub standing : (List ℕ → Scanned) → ℕ → List ℕ → ℕ → ℕ → ℕ → ℕ
+standing scanned m T s zero skip = skip
+standing scanned m T s (suc left) (suc skip) = standing scanned m T (suc s) left skip
+standing scanned m T s (suc left) zero = standing scanned m T (suc s) left (scanned (window m T s) .offset)
+
 -- ---- forward: methods 1 and 5
 
 -- What is found of a window: whether it is listed, and the inspections that its verification adds

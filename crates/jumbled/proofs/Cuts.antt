@@ -1,0 +1,150 @@
+-- A driver may be cut at any window start, and depends on its windows' bytes alone: what a search that goes on from piece to piece rests on.
+use mathlib.Core.Path.{_≡_, refl, sym, ap, ap₂, _∙_}
+use mathlib.Core.Bool.{Bool, true, false, cond}
+use mathlib.Core.List.{List, [], _∷_, _++_, map}
+use Prim.Native.Nat.{ℕ, zero, suc, _+_, _-_, _≤_, _<_, min}
+use native.Mathlib.Nat.{add-zero, add-suc, suc-add, add-assoc, zero-add, suc-sub-suc, zero-sub, sub-zero}
+use native.Mathlib.Omega.{arith}
+use Rattle.jumbled.specs.Match.{window}
+use Rattle.jumbled.specs.Scan.{Result, nothing, note, Scanned, backward, standing, Judged, forward}
+
+infixl 20 _then_
+-- what two stretches of window starts yield together
+abbrev pub _then_ : Result → Result → Result
+a then b = record { positions = a .positions ++ b .positions; inspections = a .inspections + b .inspections }
+
+-- positions with a number added to each
+abbrev pub moved : ℕ → Result → Result
+moved d r = record { positions = map (λ p. d + p) (r .positions); inspections = r .inspections }
+
+note-then : (t : Bool) (s taken : ℕ) (a b : Result) → note t s taken (a then b) ≡ note t s taken a then b
+note-then true s taken a b = ap (λ (n : ℕ). record { positions = s ∷ (a .positions ++ b .positions); inspections = n }) (sym (add-assoc taken (a .inspections) (b .inspections)))
+note-then false s taken a b = ap (λ (n : ℕ). record { positions = a .positions ++ b .positions; inspections = n }) (sym (add-assoc taken (a .inspections) (b .inspections)))
+
+nothing-then : (r : Result) → nothing then r ≡ r
+nothing-then r = ap (λ (n : ℕ). record { positions = r .positions; inspections = n }) (zero-add (r .inspections))
+
+module _ (scanned : List ℕ → Scanned) (m : ℕ) (T : List ℕ) where
+  pub standing-cut : (s a b skip : ℕ) → standing scanned m T s (a + b) skip ≡ standing scanned m T (s + a) b (standing scanned m T s a skip)
+  unfolding standing
+  standing-cut s zero b skip = rw (zero-add b, add-zero s) refl
+  standing-cut s (suc a) b (suc skip) = rw (suc-add a b, add-suc s a, ← suc-add s a) (standing-cut (suc s) a b skip)
+  standing-cut s (suc a) b zero = rw (suc-add a b, add-suc s a, ← suc-add s a) (standing-cut (suc s) a b (scanned (window m T s) .offset))
+
+  pub backward-cut : (s a b skip : ℕ)
+      → backward scanned m T s (a + b) skip ≡ backward scanned m T s a skip then backward scanned m T (s + a) b (standing scanned m T s a skip)
+  unfolding backward standing
+  backward-cut s zero b skip = rw (zero-add b, add-zero s) (sym (nothing-then (backward scanned m T s b skip)))
+  backward-cut s (suc a) b (suc skip) = rw (suc-add a b, add-suc s a, ← suc-add s a) (backward-cut (suc s) a b skip)
+  backward-cut s (suc a) b zero =
+      let w : Scanned = scanned (window m T s) in
+      rw (suc-add a b, add-suc s a, ← suc-add s a)
+      (ap (note (w .listed) s (w .inspections)) (backward-cut (suc s) a b (w .offset))
+      ∙ note-then (w .listed) s (w .inspections) (backward scanned m T (suc s) a (w .offset)) (backward scanned m T (suc s + a) b (standing scanned m T (suc s) a (w .offset))))
+
+  -- window starts that are passed over
+  pub backward-skip : (s left skip : ℕ) → backward scanned m T s left skip ≡ backward scanned m T (s + skip) (left - skip) 0
+  unfolding backward
+  backward-skip s zero skip = rw (zero-sub skip) refl
+  backward-skip s (suc left) zero = rw (add-zero s, sub-zero (suc left)) refl
+  backward-skip s (suc left) (suc skip) = rw (suc-sub-suc left skip, add-suc s skip, ← suc-add s skip) (backward-skip (suc s) left skip)
+
+  pub standing-skip : (s left skip : ℕ) → standing scanned m T s left skip ≡ standing scanned m T (s + skip) (left - skip) (skip - left)
+  unfolding standing
+  standing-skip s zero skip = rw (zero-sub skip, sub-zero skip) refl
+  standing-skip s (suc left) zero = rw (add-zero s, sub-zero (suc left), zero-sub (suc left)) refl
+  standing-skip s (suc left) (suc skip) =
+      rw (suc-sub-suc left skip, suc-sub-suc skip left, add-suc s skip, ← suc-add s skip) (standing-skip (suc s) left skip)
+
+  -- the scan at a window start, and then the search from where it goes on
+  pub backward-at : (s left : ℕ)
+      → backward scanned m T s (suc left) 0
+      ≡ note (scanned (window m T s) .listed) s (scanned (window m T s) .inspections)
+      (backward scanned m T (suc s + scanned (window m T s) .offset) (left - scanned (window m T s) .offset) 0)
+  unfolding backward
+  backward-at s left =
+      let w : Scanned = scanned (window m T s) in
+      ap (note (w .listed) s (w .inspections)) (backward-skip (suc s) left (w .offset))
+
+  pub standing-at : (s left : ℕ)
+      → standing scanned m T s (suc left) 0
+      ≡ standing scanned m T (suc s + scanned (window m T s) .offset) (left - scanned (window m T s) .offset)
+      (scanned (window m T s) .offset - left)
+  unfolding standing
+  standing-at s left = standing-skip (suc s) left (scanned (window m T s) .offset)
+
+-- ---- two texts whose windows agree, those of one d places further on
+
+moved-note : (d : ℕ) (t : Bool) (s taken : ℕ) (r : Result) → note t (d + s) taken (moved d r) ≡ moved d (note t s taken r)
+moved-note d true s taken r = refl
+moved-note d false s taken r = refl
+
+abbrev pub Agree : ℕ → List ℕ → ℕ → List ℕ → ℕ → ℕ → Type 0
+Agree m T d U s left = (i : ℕ) → i < left → window m T (d + (s + i)) ≡ window m U (s + i)
+
+agree-here : (m : ℕ) (T : List ℕ) (d : ℕ) (U : List ℕ) (s left : ℕ) → Agree m T d U s (suc left) → window m T (d + s) ≡ window m U s
+agree-here m T d U s left h = rw (add-zero s) at (h 0 (omega arith))
+
+agree-later : (m : ℕ) (T : List ℕ) (d : ℕ) (U : List ℕ) (s left : ℕ) → Agree m T d U s (suc left) → Agree m T d U (suc s) left
+agree-later m T d U s left h i l = rw (suc-add s i, ← add-suc s i) (h (suc i) (omega arith))
+
+module _ (scanned : List ℕ → Scanned) (m : ℕ) (T : List ℕ) (d : ℕ) (U : List ℕ) where
+  pub backward-agree : (s left skip : ℕ) → Agree m T d U s left
+      → backward scanned m T (d + s) left skip ≡ moved d (backward scanned m U s left skip)
+  unfolding backward
+  backward-agree s zero skip h = refl
+  backward-agree s (suc left) (suc skip) h =
+      rw (← add-suc d s) (backward-agree (suc s) left skip (agree-later m T d U s left h))
+  backward-agree s (suc left) zero h =
+      let w : Scanned = scanned (window m U s) in
+      rw (agree-here m T d U s left h, ← add-suc d s)
+      (ap (note (w .listed) (d + s) (w .inspections)) (backward-agree (suc s) left (w .offset) (agree-later m T d U s left h))
+      ∙ moved-note d (w .listed) s (w .inspections) (backward scanned m U (suc s) left (w .offset)))
+
+  pub standing-agree : (s left skip : ℕ) → Agree m T d U s left → standing scanned m T (d + s) left skip ≡ standing scanned m U s left skip
+  unfolding standing
+  standing-agree s zero skip h = refl
+  standing-agree s (suc left) (suc skip) h =
+      rw (← add-suc d s) (standing-agree (suc s) left skip (agree-later m T d U s left h))
+  standing-agree s (suc left) zero h =
+      rw (agree-here m T d U s left h, ← add-suc d s)
+      (standing-agree (suc s) left (scanned (window m U s) .offset) (agree-later m T d U s left h))
+
+-- ---- forward
+
+module _ (judged : List ℕ → Judged) (m : ℕ) (T : List ℕ) where
+  pub forward-at : (s left cost : ℕ)
+      → forward judged m T s (suc left) cost
+      ≡ note (judged (window m T s) .listed) s (cost + judged (window m T s) .verification) (forward judged m T (suc s) left 1)
+  unfolding forward
+  forward-at s left cost = refl
+
+  pub forward-cut : (s a b : ℕ) → forward judged m T s (a + b) 1 ≡ forward judged m T s a 1 then forward judged m T (s + a) b 1
+  unfolding forward
+  forward-cut s zero b = rw (zero-add b, add-zero s) (sym (nothing-then (forward judged m T s b 1)))
+  forward-cut s (suc a) b =
+      let w : Judged = judged (window m T s) in
+      rw (suc-add a b, add-suc s a, ← suc-add s a)
+      (ap (note (w .listed) s (1 + w .verification)) (forward-cut (suc s) a b)
+      ∙ note-then (w .listed) s (1 + w .verification) (forward judged m T (suc s) a 1) (forward judged m T (suc s + a) b 1))
+
+  -- the first window's inspections but the last may be made before
+  pub forward-primed : (s left cost : ℕ) → 0 < left
+      → forward judged m T s left (cost + 1) ≡ record { positions = []; inspections = cost } then forward judged m T s left 1
+  unfolding forward
+  forward-primed s (suc left) cost h =
+      let w : Judged = judged (window m T s) in
+      let rest : Result = forward judged m T (suc s) left 1 in
+      let same : cost + 1 + w .verification + rest .inspections ≡ cost + (1 + w .verification + rest .inspections) = omega arith in
+      rw same refl
+
+module _ (judged : List ℕ → Judged) (m : ℕ) (T : List ℕ) (d : ℕ) (U : List ℕ) where
+  pub forward-agree : (s left cost : ℕ) → Agree m T d U s left
+      → forward judged m T (d + s) left cost ≡ moved d (forward judged m U s left cost)
+  unfolding forward
+  forward-agree s zero cost h = refl
+  forward-agree s (suc left) cost h =
+      let w : Judged = judged (window m U s) in
+      rw (agree-here m T d U s left h, ← add-suc d s)
+      (ap (note (w .listed) (d + s) (cost + w .verification)) (forward-agree (suc s) left 1 (agree-later m T d U s left h))
+      ∙ moved-note d (w .listed) s (cost + w .verification) (forward judged m U (suc s) left 1))
