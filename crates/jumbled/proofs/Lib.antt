@@ -10,4 +10,5 @@ pub mod Ranks
 pub mod HeapSums
 pub mod Admission
 pub mod Methods
+pub mod Positions
 pub mod Sheet

@@ -1,0 +1,117 @@
+-- That `positions` is what document 01 says of the listed positions: all s with s + m ≤ n whose window matches, and ascending; and that
+-- method 1 makes n inspections (document 01, "What a match is" and "The five methods", 1).
+use mathlib.Core.Path.{_≡_, refl, sym, ap, _∙_}
+use mathlib.Core.Bool.{Bool, true, false, cond, false≢true}
+use mathlib.Core.List.{List, [], _∷_, List·Memᴰ, List·Memᴰ·head, List·Memᴰ·tail, List·Memᴰ·not-nil, List·Memᴰ·cases-cons}
+use mathlib.Core.Logic.{_↔_, _⊎_, inl, inr, ⊎-elim}
+use Prim.Native.Nat.{ℕ, zero, suc, _+_, _-_, _≤_, _<_}
+use native.Mathlib.Nat.{le-refl, le-trans, not-suc-le-zero, sub-zero}
+use native.Mathlib.Omega.{arith}
+use lib.Dec.{eqb}
+use lib.ListN.{length}
+use borrow.Author.Tests.{leb-true, le-leb}
+use Rattle.jumbled.specs.Match.{excess, matches, window, starts, select, positions}
+use Rattle.jumbled.specs.Scan.{Result, nothing, Judged, backward, forward}
+use Rattle.jumbled.specs.Steps.{countJudged, steps}
+use Rattle.jumbled.proofs.Sums.{below-or-not}
+
+-- Each number is over those before it, and none is below `least`
+pub data Ascending : ℕ → List ℕ → Type 0 where
+  none : {least : ℕ} → Ascending least []
+  next : {least s : ℕ} {more : List ℕ} → least ≤ s → Ascending (suc s) more → Ascending least (s ∷ more)
+
+weaker : {a : ℕ} {l : List ℕ} (b : ℕ) → b ≤ a → Ascending a l → Ascending b l
+weaker b h none = none
+weaker b h (next g more) = next (le-trans h g) more
+
+select-ascending : (test : ℕ → Bool) (s count : ℕ) → Ascending s (select test s count)
+unfolding select
+select-ascending test s zero = none
+select-ascending test s (suc count) = case (test s) (select-ascending test (suc s) count)
+  where
+    case : (t : Bool) → Ascending (suc s) (select test (suc s) count) → Ascending s (cond t (s ∷ select test (suc s) count) (select test (suc s) count))
+    case true more = next (le-refl s) more
+    case false more = weaker s (omega arith) more
+
+-- A number is selected exactly where it is in the range and passes the test
+record Picked (test : ℕ → Bool) (s count x : ℕ) : Type 0 where
+  least : s ≤ x
+  below : x < s + count
+  passes : test x ≡ true
+
+picked : (test : ℕ → Bool) (s count x : ℕ) → List·Memᴰ x (select test s count) → Picked test s count x
+unfolding select
+picked test s zero x mem = absurd (List·Memᴰ·not-nil mem)
+picked test s (suc count) x mem = case (test s) refl mem (picked test (suc s) count x)
+  where
+    later : Picked test (suc s) count x → Picked test s (suc count) x
+    later p = record { least = omega (arith, p .least); below = omega (arith, p .below); passes = p .passes }
+
+    case : (t : Bool) → test s ≡ t → List·Memᴰ x (cond t (s ∷ select test (suc s) count) (select test (suc s) count))
+        → (List·Memᴰ x (select test (suc s) count) → Picked test (suc s) count x) → Picked test s (suc count) x
+    case true e inside rest =
+        ⊎-elim (λ (q : x ≡ s). record { least = omega arith; below = omega arith; passes = ap test q ∙ e }) (λ i. later (rest i))
+        (List·Memᴰ·cases-cons inside)
+    case false e inside rest = later (rest inside)
+
+selected : (test : ℕ → Bool) (s count x : ℕ) → Picked test s count x → List·Memᴰ x (select test s count)
+unfolding select
+selected test s zero x p = absurd (let l = p .least in let b = p .below in omega arith)
+selected test s (suc count) x p =
+    ⊎-elim (λ (l : s < x). later (test s) (selected test (suc s) count x (record { least = l; below = omega (arith, p .below); passes = p .passes })))
+    (λ (l : x ≤ s). let same : x ≡ s = omega (arith, p .least) in here same (test s) (ap test (sym same) ∙ p .passes)) (below-or-not s x)
+  where
+    later : (t : Bool) → List·Memᴰ x (select test (suc s) count) → List·Memᴰ x (cond t (s ∷ select test (suc s) count) (select test (suc s) count))
+    later true mem = List·Memᴰ·tail mem
+    later false mem = mem
+
+    here : x ≡ s → (t : Bool) → t ≡ true → List·Memᴰ x (cond t (s ∷ select test (suc s) count) (select test (suc s) count))
+    here same true e = List·Memᴰ·head same
+    here same false e = absurd (false≢true e)
+
+-- ---- the listed positions
+
+module _ (P : List ℕ) (k : ℕ) (T : List ℕ) where
+  pub ascending : Ascending 0 (positions P k T)
+  unfolding positions
+  ascending = select-ascending (λ s. matches P k (window (length P) T s)) 0 (starts (length P) T)
+
+  pub listed : (s : ℕ) → List·Memᴰ s (positions P k T) ↔ ((s + length P ≤ length T) × (excess P (window (length P) T s) ≤ k))
+  unfolding positions matches
+  listed s = (from, to)
+    where
+      test : ℕ → Bool
+      test x = matches P k (window (length P) T x)
+
+      from : List·Memᴰ s (positions P k T) → (s + length P ≤ length T) × (excess P (window (length P) T s) ≤ k)
+      from mem =
+          let p : Picked test 0 (starts (length P) T) s = picked test 0 (starts (length P) T) s mem in
+          (omega (arith, p .below), leb-true (excess P (window (length P) T s)) k (p .passes))
+
+      to : (s + length P ≤ length T) × (excess P (window (length P) T s) ≤ k) → List·Memᴰ s (positions P k T)
+      to h =
+          selected test 0 (starts (length P) T) s
+          (record { least = omega arith; below = omega (arith, h .0); passes = le-leb (excess P (window (length P) T s)) k (h .1) })
+
+-- ---- method 1 makes n inspections, none where n < m
+
+forward-plain : (judged : List ℕ → Judged) → ((W : List ℕ) → judged W .verification ≡ 0) → (m : ℕ) (T : List ℕ) (s left cost : ℕ)
+    → forward judged m T s (suc left) cost .inspections ≡ cost + left
+unfolding forward
+forward-plain judged plain m T s zero cost = omega (arith, plain (window m T s))
+forward-plain judged plain m T s (suc left) cost = omega (arith, plain (window m T s), forward-plain judged plain m T (suc s) left 1)
+
+pub count-inspections : (P : List ℕ) (k : ℕ) (T : List ℕ) → length P ≤ length T → steps P k 1 T .inspections ≡ length T
+unfolding steps countJudged
+count-inspections P k T h =
+    let all : starts (length P) T ≡ suc (length T - length P) = omega arith in
+    rw all (forward-plain (countJudged P k) (λ W. refl) (length P) T 0 (length T - length P) (length P) ∙ omega arith)
+
+either : (t : Bool) (r : Result) → cond t r r ≡ r
+either true r = refl
+either false r = refl
+
+-- no method makes any where n < m
+pub no-inspections : (P : List ℕ) (k method : ℕ) (T : List ℕ) → length T < length P → steps P k method T ≡ nothing
+unfolding steps forward backward
+no-inspections P k method T h = let none : starts (length P) T ≡ 0 = omega arith in rw none (simp either)
