@@ -43,6 +43,28 @@ pack-lt w v (suc n) h =
       digits-lt {q = v n} {m = 2 ^ w n} {r = pack w v n} {c = 2 ^ sum n w} (h n (le-refl (suc n))) (pack-lt w v n (fitting-less w v n h)),
     ))
 
+-- a field that holds 0 adds nothing
+pub pack-empty : (w v : ℕ → ℕ) (n : ℕ) → v n ≡ 0 → pack w v (suc n) ≡ pack w v n
+unfolding pack
+pack-empty w v n e = rw (e, zero-mul (2 ^ sum n w)) (add-zero (pack w v n))
+
+-- fewer fields, no more bits
+pub sum-upto : (f : ℕ → ℕ) (m n : ℕ) → m ≤ n → sum m f ≤ sum n f
+unfolding sum
+sum-upto f m zero l = let same : m ≡ 0 = omega arith in rw same (le-refl 0)
+sum-upto f m (suc n) l =
+    ⊎-elim (λ (h : m < suc n). omega (arith, sum-upto f m n (omega arith)))
+    (λ (h : suc n ≤ m). let same : m ≡ suc n = omega arith in rw same (le-refl (sum (suc n) f))) (below-or-not m (suc n))
+
+pack-sum : (w v : ℕ → ℕ) (n : ℕ) → pack w v n ≡ sum n (λ f. v f * 2 ^ sum f w)
+unfolding pack sum
+pack-sum w v zero = refl
+pack-sum w v (suc n) = ap (λ (x : ℕ). x + v n * 2 ^ sum n w) (pack-sum w v n)
+
+-- and no larger a number
+pub pack-upto : (w v : ℕ → ℕ) (m n : ℕ) → m ≤ n → pack w v m ≤ pack w v n
+pack-upto w v m n l = rw (pack-sum w v m, pack-sum w v n) (sum-upto (λ f. v f * 2 ^ sum f w) m n l)
+
 -- sums go field by field
 pub pack-add : (w u v : ℕ → ℕ) (n : ℕ) → pack w u n + pack w v n ≡ pack w (λ f. u f + v f) n
 unfolding pack
@@ -90,6 +112,9 @@ pack-only w f x (suc n) l =
 pub topBit-suc : (g : ℕ) → topBit (suc g) ≡ 2 ^ g
 unfolding topBit
 topBit-suc g = rw (pow-suc 2 g) (mul-div-cancel (2 ^ g) (lit< tt))
+
+pub topBit-pred : (g : ℕ) → 1 ≤ g → topBit g ≡ 2 ^ (g - 1)
+topBit-pred g l = let same : g ≡ suc (g - 1) = omega arith in ap topBit same ∙ topBit-suc (g - 1)
 
 pub topBit-lt : (g : ℕ) → topBit g < 2 ^ g
 unfolding topBit
