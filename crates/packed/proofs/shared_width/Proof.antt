@@ -12,7 +12,7 @@ lg-requires : tie.Need-lg-requires
 lg-requires c κs = search needs
 
 add-result : tie.Need-add-result
-add-result c = omega (arith, lg-le (c .before .before .args .k) (c .before .before .pre))
+add-result c = omega (arith, lg-le _ (lg-requires (c .before) tt))
 
 returns : tie.Need-returns
 returns c = sym (ap (λ (L : Layout). L .common) (layout-2 (c .before .args .k) (c .before .args .method) (c .match .keys1)))
