@@ -12,7 +12,7 @@ use lib.Seq.{take-suc}
 use borrow.Author.Tests.{eqb-true}
 use Rattle.jumbled.specs.Match.{cc, bit}
 use Rattle.jumbled.proofs.Counts.{cc-nil, cc-cons, cc-append, cc-take, cc-length}
-use Rattle.parikh.specs.Table.{tabulate, parikh}
+use Rattle.parikh.specs.Table.{parikh}
 use Rattle.parikh.proofs.Tables.{length-tabulate, getD-tabulate, tabulate-ext, tabulate-replicate, tabulate-set}
 
 pub length-parikh : (U : List ℕ) → length (parikh U) ≡ 256

@@ -1,0 +1,56 @@
+-- Laws of `rank`, `heapValue` and `exact`, byte by byte.
+use mathlib.Core.Path.{_≡_, refl, ap, _∙_}
+use mathlib.Core.Bool.{Bool, true, false, cond}
+use mathlib.Core.List.{List}
+use Prim.Native.Nat.{ℕ, _+_, _%_, _^_, _<_}
+use native.Mathlib.Nat.{add-zero, mod-lt}
+use native.Mathlib.Numerals.{add-one}
+use native.Mathlib.Omega.{arith}
+use lib.Dec.{leb, lit<}
+use lib.ListN.{length}
+use borrow.Author.Tests.{eq-eqb, ne-eqb}
+use Rattle.jumbled.specs.Match.{bit, cc, sum}
+use Rattle.jumbled.specs.Heap.{occurs, rank, heapValue, exact}
+use Rattle.jumbled.proofs.Sums.{sum-zero, sum-suc}
+
+pub occurs-some : (P : List ℕ) (c : ℕ) → 0 < cc P c → occurs P c ≡ true
+unfolding occurs
+occurs-some P c h = rw (ne-eqb (cc P c) 0 (λ e. omega arith)) refl
+
+pub occurs-none : (P : List ℕ) (c : ℕ) → cc P c ≡ 0 → occurs P c ≡ false
+unfolding occurs
+occurs-none P c h = rw (eq-eqb (cc P c) 0 h) refl
+
+pub rank-zero : (P : List ℕ) → rank P 0 ≡ 0
+unfolding rank
+rank-zero P = sum-zero (λ d. bit (occurs P d))
+
+rank-next : (P : List ℕ) (c : ℕ) → rank P (c + 1) ≡ rank P c + bit (occurs P c)
+unfolding rank
+rank-next P c = ap (λ (n : ℕ). sum n (λ d. bit (occurs P d))) (add-one c) ∙ sum-suc c (λ d. bit (occurs P d))
+
+pub rank-some : (P : List ℕ) (c : ℕ) → 0 < cc P c → rank P (c + 1) ≡ rank P c + 1
+rank-some P c h = rank-next P c ∙ ap (λ (t : Bool). rank P c + bit t) (occurs-some P c h)
+
+pub rank-none : (P : List ℕ) (c : ℕ) → cc P c ≡ 0 → rank P (c + 1) ≡ rank P c
+rank-none P c h = rank-next P c ∙ ap (λ (t : Bool). rank P c + bit t) (occurs-none P c h) ∙ add-zero (rank P c)
+
+pub heapValue-some : (P : List ℕ) (c : ℕ) → 0 < cc P c → heapValue P c ≡ (length P + 1) ^ rank P c % 2 ^ 64
+unfolding heapValue
+heapValue-some P c h = rw (occurs-some P c h) refl
+
+pub heapValue-none : (P : List ℕ) (c : ℕ) → cc P c ≡ 0 → heapValue P c ≡ 0
+unfolding heapValue
+heapValue-none P c h = rw (occurs-none P c h) refl
+
+pub heapValue-below : (P : List ℕ) (c : ℕ) → heapValue P c < 2 ^ 64
+unfolding heapValue
+heapValue-below P c = case (occurs P c)
+  where
+    case : (t : Bool) → cond t ((length P + 1) ^ rank P c % 2 ^ 64) 0 < 2 ^ 64
+    case true = mod-lt ((length P + 1) ^ rank P c) (lit< tt)
+    case false = lit< tt
+
+pub exact-rank : (P : List ℕ) → exact P ≡ leb ((length P + 1) ^ rank P 256) (2 ^ 64)
+unfolding exact
+exact-rank P = refl
