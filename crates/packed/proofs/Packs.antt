@@ -3,7 +3,7 @@ use mathlib.Core.Path.{_≡_, refl, sym, ap, ap₂, _∙_}
 use mathlib.Core.Bool.{Bool, true, false, cond, not, _||_}
 use mathlib.Core.Logic.{⊎-elim}
 use Prim.Native.Nat.{ℕ, zero, suc, _+_, _*_, _-_, _/_, _%_, _^_, _≤_, _<_}
-use native.Mathlib.Nat.{add-comm, mul-comm, add-zero, zero-add, add-mul, zero-mul, eq-of-mul-eq-mul-right, le-refl, mod-lt, mul-div-cancel, pow-suc}
+use native.Mathlib.Nat.{add-comm, mul-comm, add-zero, add-mul, zero-mul, eq-of-mul-eq-mul-right, le-refl, mod-lt, mul-div-cancel, pow-suc}
 use native.Mathlib.Omega.{arith}
 use lib.Dec.{eqb, lit<}
 use lib.Arith.{digits-lt}
@@ -12,7 +12,7 @@ use lib.Bits.{bitAnd, and-block, and-high, and-zero-r}
 use borrow.Author.Tests.{eq-eqb, ne-eqb, eqb-true, eqb-false}
 use Rattle.jumbled.specs.Match.{sum}
 use Rattle.jumbled.specs.Fields.{topSet, some}
-use Rattle.jumbled.proofs.Sums.{below-or-not, some-ext}
+use Rattle.jumbled.proofs.Sums.{below-or-not, sum-ext, sum-point, some-ext}
 use Rattle.packed.specs.Pack.{pack, topBit, only}
 
 -- Each of the first n fields holds a number of its width
@@ -26,10 +26,16 @@ pub pack-suc : (w v : ℕ → ℕ) (n : ℕ) → pack w v (suc n) ≡ pack w v n
 unfolding pack
 pack-suc w v n = refl
 
+pack-sum : (w v : ℕ → ℕ) (n : ℕ) → pack w v n ≡ sum n (λ f. v f * 2 ^ sum f w)
+unfolding pack sum
+pack-sum w v zero = refl
+pack-sum w v (suc n) = ap (λ (x : ℕ). x + v n * 2 ^ sum n w) (pack-sum w v n)
+
 pub pack-ext : (w u v : ℕ → ℕ) (n : ℕ) → ((f : ℕ) → f < n → u f ≡ v f) → pack w u n ≡ pack w v n
-unfolding pack
-pack-ext w u v zero h = refl
-pack-ext w u v (suc n) h = ap₂ (λ (a b : ℕ). a + b * 2 ^ sum n w) (pack-ext w u v n (λ f l. h f (omega arith))) (h n (le-refl (suc n)))
+pack-ext w u v n h =
+    pack-sum w u n
+    ∙ sum-ext n (λ f. u f * 2 ^ sum f w) (λ f. v f * 2 ^ sum f w) (λ f l. ap (λ (x : ℕ). x * 2 ^ sum f w) (h f l))
+    ∙ sym (pack-sum w v n)
 
 -- the fields fill no more bits than they have
 pub pack-lt : (w v : ℕ → ℕ) (n : ℕ) → Fitting w v n → pack w v n < 2 ^ sum n w
@@ -55,11 +61,6 @@ sum-upto f m zero l = let same : m ≡ 0 = omega arith in rw same (le-refl 0)
 sum-upto f m (suc n) l =
     ⊎-elim (λ (h : m < suc n). omega (arith, sum-upto f m n (omega arith)))
     (λ (h : suc n ≤ m). let same : m ≡ suc n = omega arith in rw same (le-refl (sum (suc n) f))) (below-or-not m (suc n))
-
-pack-sum : (w v : ℕ → ℕ) (n : ℕ) → pack w v n ≡ sum n (λ f. v f * 2 ^ sum f w)
-unfolding pack sum
-pack-sum w v zero = refl
-pack-sum w v (suc n) = ap (λ (x : ℕ). x + v n * 2 ^ sum n w) (pack-sum w v n)
 
 -- and no larger a number
 pub pack-upto : (w v : ℕ → ℕ) (m n : ℕ) → m ≤ n → pack w v m ≤ pack w v n
@@ -91,21 +92,17 @@ pub only-other : (f x g : ℕ) → (f ≡ g → ⊥) → only f x g ≡ 0
 unfolding only
 only-other f x g h = rw (ne-eqb f g h)
 
-pack-none : (w : ℕ → ℕ) (f x n : ℕ) → n ≤ f → pack w (only f x) n ≡ 0
-unfolding pack
-pack-none w f x zero l = refl
-pack-none w f x (suc n) l = rw (pack-none w f x n (omega arith), only-other f x n (λ e. omega arith)) (omega (arith, zero-mul (2 ^ sum n w)))
-
 -- a number in one field stands at that field's place
 pub pack-only : (w : ℕ → ℕ) (f x n : ℕ) → f < n → pack w (only f x) n ≡ x * 2 ^ sum f w
-unfolding pack
-pack-only w f x zero l = omega arith
-pack-only w f x (suc n) l =
-    ⊎-elim
-    (λ (h : f < n). rw (pack-only w f x n h, only-other f x n (λ e. omega arith)) (omega (arith, zero-mul (2 ^ sum n w))))
-    (λ (h : n ≤ f).
-    let same : f ≡ n = omega arith in
-    rw (pack-none w f x n h, same, only-same n x) (zero-add (x * 2 ^ sum n w))) (below-or-not f n)
+unfolding only
+pack-only w f x n l =
+    pack-sum w (only f x) n
+    ∙ sum-ext n (λ g. only f x g * 2 ^ sum g w) (λ g. cond (eqb f g) (x * 2 ^ sum f w) 0) (λ g m. at g (eqb f g) refl)
+    ∙ sum-point n f (x * 2 ^ sum f w) l
+  where
+    at : (g : ℕ) (t : Bool) → eqb f g ≡ t → cond t x 0 * 2 ^ sum g w ≡ cond t (x * 2 ^ sum f w) 0
+    at g true e = rw (eqb-true f g e) refl
+    at g false e = zero-mul (2 ^ sum g w)
 
 -- ---- top bits
 

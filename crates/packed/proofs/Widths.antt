@@ -3,7 +3,7 @@ use mathlib.Core.Path.{_≡_, refl, ap, _∙_}
 use mathlib.Core.Logic.{⊎-elim}
 use mathlib.Core.Bool.{Bool, true, false, cond}
 use mathlib.Core.List.{List}
-use lib.ListN.{length}
+use lib.ListN.{length, getD}
 use lib.Dec.{eqb, lit≤}
 use Prim.Native.Nat.{ℕ, zero, suc, _+_, _*_, _-_, _^_, _≤_, _<_, max}
 use native.Mathlib.Nat.{le-antisymm, max-le, pow-suc}
@@ -14,6 +14,8 @@ use Rattle.jumbled.specs.Fields.{lg, Layout, bamLayout, bam2Layout, abamLayout,
 use Rattle.jumbled.specs.Match.{cc, sum}
 use Rattle.jumbled.proofs.Sums.{below-or-not, sum-suc}
 use Rattle.jumbled.proofs.Counts.{cc-length}
+use Rattle.parikh.specs.Table.{parikh}
+use Rattle.parikh.proofs.Parikh.{getD-parikh}
 use Rattle.jumbled.proofs.Lg.{lg-enough, lg-least}
 
 -- ---- lg
@@ -112,6 +114,10 @@ layout-roomy k method l h =
         }
 
 -- ---- the widths of a pattern's fields
+
+-- a counter is how often the pattern has the byte
+pub count-is : (P counts : List ℕ) (c : ℕ) → counts ≡ parikh P → c < 256 → getD counts c 0 ≡ cc P c
+count-is P counts c e l = ap (λ (t : List ℕ). getD t c 0) e ∙ getD-parikh P c l
 
 pub width-shared : (P : List ℕ) (L : Layout) → widthOf P L shared ≡ L .common
 unfolding widthOf

@@ -12,7 +12,7 @@ use Rattle.packed.specs.declared.Tables.{Tables}
 -- A field of a byte that the pattern has count times: its start value, a 1 and its top bit, at its place in the word
 pub record Placed (count width at : ℕ) (r : Field) : Type 0 where
   pub start : r .start ≡ (2 ^ (width - 1) - count - 1) * 2 ^ at
-  pub unit : r .unit ≡ 1 * 2 ^ at
+  pub unit : r .unit ≡ 2 ^ at
   pub top : r .top ≡ topBit width * 2 ^ at
 
 -- The arguments that the tables are made for: methods 2, 3 and 4, and fields that need 64 bits at most (document 01, "When a call says no", 5)

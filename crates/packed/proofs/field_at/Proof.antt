@@ -45,7 +45,7 @@ returns c =
       start =
           ap (λ (x : ℕ). ((x - a .count - 1) * 2 ^ (a .at)) % 2 ^ 64) top
           ∙ shl-exact {a = 2 ^ (g - 1) - a .count - 1} g (a .at) 64 (omega arith) (omega arith);
-      unit = shl-exact {a = 1} 1 (a .at) 64 (lit< tt) (omega arith);
+      unit = shl-exact {a = 1} 1 (a .at) 64 (lit< tt) (omega arith) ∙ one-mul (2 ^ (a .at));
       top =
           ap (λ (x : ℕ). (x * 2 ^ (a .at)) % 2 ^ 64) top
           ∙ shl-exact {a = 2 ^ (g - 1)} g (a .at) 64 below (omega arith)

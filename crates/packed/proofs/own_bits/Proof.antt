@@ -1,6 +1,5 @@
 -- `packed::own_bits` meets its contract. The loop's invariant: the total is the sum of the widths of the bytes passed. Assumes nothing.
 use mathlib.Core.Path.{_≡_, sym, ap, ap₂, _∙_}
-use mathlib.Core.List.{List}
 use mathlib.Core.Logic.{⊎-elim}
 use Prim.Native.Nat.{ℕ, _+_, _-_, _≤_}
 use native.Mathlib.Numerals.{add-one}
@@ -10,8 +9,7 @@ use Rattle.jumbled.specs.Match.{cc, sum}
 use Rattle.jumbled.specs.Fields.{layoutOf, widthOf}
 use Rattle.jumbled.proofs.Sums.{sum-zero, sum-suc}
 use Rattle.jumbled.proofs.Counts.{cc-length}
-use Rattle.parikh.proofs.Parikh.{getD-parikh}
-use Rattle.packed.proofs.Widths.{layout-narrow, width-none, width-own, widths-most}
+use Rattle.packed.proofs.Widths.{count-is, layout-narrow, width-none, width-own, widths-most}
 use Rattle.packed.proofs.own_bits.Statement.{statement}
 use Rattle.packed.proofs.own_bits.Tie as tie
 
@@ -33,18 +31,14 @@ mul-count c = omega arith
 array-read-count : tie.Need-array-read-count Inv-loop μ-loop
 array-read-count c = omega arith
 
--- the counter of a byte is how often the pattern has it
-count-is : (c : tie.In-loop Inv-loop μ-loop)
-    → getD (c .before .before .counts .result) (c .before .loop .byte) 0 ≡ cc (c .before .before .before .before .args .pattern .now) (c .before .loop .byte)
-count-is c =
-    ap (λ (l : List ℕ). getD l (c .before .loop .byte) 0) (c .before .before .counts .ensures)
-    ∙ getD-parikh (c .before .before .before .before .args .pattern .now) (c .before .loop .byte) (c .loop-test .taken)
+counted : (c : tie.In-loop Inv-loop μ-loop) → getD (c .before .before .counts .result) (c .before .loop .byte) 0 ≡ cc (c .before .before .before .before .args .pattern .now) (c .before .loop .byte)
+counted c = count-is (c .before .before .before .before .args .pattern .now) (c .before .before .counts .result) (c .before .loop .byte) (c .before .before .counts .ensures) (c .loop-test .taken)
 
 own-width-requires : tie.Need-own-width-requires Inv-loop μ-loop
 own-width-requires c κs =
     omega (
       arith,
-      count-is (c .before),
+      counted (c .before),
       cc-length (c .before .before .before .before .before .args .pattern .now) (c .before .before .loop .byte),
     )
 
@@ -71,7 +65,7 @@ loop-again c =
     let byte = c .before .before .loop .byte in
     let L = layoutOf (a .k) (a .method) in
     let one-more = ap (λ (n : ℕ). sum n (widthOf (a .pattern .now) L)) (add-one byte) ∙ sum-suc byte (widthOf (a .pattern .now) L) in
-    let is = count-is (c .before) in (
+    let is = counted (c .before) in (
       omega arith,
       ⊎-elim
           (λ w.
