@@ -1,3 +1,4 @@
 pub mod Packs
 pub mod Widths
 pub mod Words
+pub mod Values

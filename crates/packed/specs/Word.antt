@@ -23,8 +23,8 @@ pub record Packable (P : List ℕ) (k method : ℕ) : Type 0 where
   pub to : method ≤ 4
   pub fits : bits P (layoutOf k method) ≤ 64
 
--- What a search by packed fields goes by: the word before the first look, what a look at each byte adds, the top bits of all fields, and
--- of the field of each byte
+-- What a search by packed fields goes by: the word before the first inspection, what an inspection of each byte adds, the
+-- top bits of all fields, and of the field of each byte
 pub record Packed (P : List ℕ) (layout : Layout) (r : Tables) : Type 0 where
   pub start : r .start ≡ pack (widthOf P layout) (startOf P layout) fields
   pub units : r .units ≡ tabulate 256 (λ c. pack (widthOf P layout) (only (fieldOf P c) 1) fields)

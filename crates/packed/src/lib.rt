@@ -1,13 +1,11 @@
 // The packed word of methods 2, 3 and 4: the widths of its fields, its start value and its tables.
 
 ghost use mathlib.Core.Path.{_≡_};
-ghost use Prim.Native.Nat.{_+_, _*_, _-_, _^_, _≤_, _<_, max};
-ghost use mathlib.Core.Bool.{cond};
-ghost use lib.Dec.{eqb};
+ghost use Prim.Native.Nat.{_+_, _-_, _^_, _≤_, max};
 ghost use lib.ListN.{length};
 ghost use Rattle.jumbled.specs.Match.{sum};
-ghost use Rattle.packed.specs.Word.{Placed, Packable, Packed};
 ghost use Rattle.jumbled.specs.Fields.{lg as lgOf, layoutOf, widthOf, bits};
+ghost use Rattle.packed.specs.Word.{Placed, Packable, Packed};
 
 // The smallest e with 2^e at least v and at least 1: document 01, "The five methods", the sentence above the list.
 pub fn lg(v: usize) -> usize
@@ -41,7 +39,7 @@ pub fn own_width(count: usize, k: usize, method: u8) -> usize
     }
 }
 
-// The width of the field that all other bytes share.
+// The width of the field that all other bytes share: 2 to 4 there.
 pub fn shared_width(k: usize, method: u8) -> usize
     requires { ⌜ k ≤ 64 ⌝ }
     ensures { λ r. ⌜ r ≡ layoutOf k method .common ⌝ }
@@ -78,11 +76,11 @@ pub fn field_bits(pattern: &[u8], k: usize, method: u8) -> usize
     own_bits(pattern, k, method) + shared_width(k, method)
 }
 
-// A field of the packed word, each number at the field's place: its start value, what a look adds, its top bit.
-pub struct Field {
-    pub start: u64,
-    pub unit: u64,
-    pub top: u64,
+// A field of the packed word, each number at the field's place: its start value, what an inspection adds, its top bit.
+struct Field {
+    start: u64,
+    unit: u64,
+    top: u64,
 }
 
 // The field of width bits that starts at bit at, of a byte that the pattern has count times.
@@ -98,8 +96,8 @@ fn field_at(count: usize, width: usize, at: usize) -> Field
     }
 }
 
-// What a search by packed fields goes by: the word before the first look, what a look at each byte adds, the top bits of all fields, and
-// of the field of each byte.
+// What a search by packed fields goes by: the word before the first inspection, what an inspection of each byte adds, the
+// top bits of all fields, and of the field of each byte.
 pub struct Tables {
     pub start: u64,
     pub units: [u64; 256],

@@ -1,0 +1,57 @@
+-- The word while a window is read: an inspection of a byte adds the byte's unit, and the tests of its top bits are those of the steps.
+use mathlib.Core.Path.{_≡_, ap, _∙_}
+use mathlib.Core.Bool.{Bool, true, false, cond, not}
+use mathlib.Core.List.{List, [], _∷_, map}
+use Prim.Native.Nat.{ℕ, _+_, _^_, _≤_, _<_}
+use native.Mathlib.Nat.{add-zero, lt-of-lt-of-le}
+use native.Mathlib.Omega.{arith}
+use lib.Bits.{bitAnd}
+use lib.Dec.{eqb}
+use lib.Pow.{pow-mono}
+use Rattle.jumbled.specs.Match.{cc}
+use Rattle.jumbled.specs.Fields.{Layout, shared, fields, fieldOf, widthOf, startOf, valueOf, bits, overflows, ownTopSet}
+use Rattle.jumbled.proofs.Counts.{cc-nil, cc-cons}
+use Rattle.packed.specs.Pack.{pack, topBit, only}
+use Rattle.packed.proofs.Packs.{Fitting, pack-ext, pack-lt, pack-add, tops-test, own-top-test}
+use Rattle.packed.proofs.Words.{unitOf, topOf}
+
+-- The word after the bytes R were read
+abbrev pub wordOf : List ℕ → Layout → List ℕ → ℕ
+wordOf P L R = pack (widthOf P L) (valueOf P L R) fields
+
+pub field-lt : (P : List ℕ) (b : ℕ) → b < 256 → fieldOf P b < fields
+unfolding fieldOf
+field-lt P b l = at (eqb (cc P b) 0)
+  where
+    at : (t : Bool) → cond t shared b < fields
+    at true = omega arith
+    at false = omega arith
+
+module _ (P : List ℕ) (L : Layout) where
+  pub word-nil : wordOf P L [] ≡ pack (widthOf P L) (startOf P L) fields
+  unfolding valueOf
+  word-nil =
+      pack-ext (widthOf P L) (valueOf P L []) (startOf P L) fields
+      (λ f l. ap (λ (n : ℕ). startOf P L f + n) (cc-nil f) ∙ add-zero (startOf P L f))
+
+  pub word-cons : (b : ℕ) (R : List ℕ) → wordOf P L R + unitOf P L (fieldOf P b) ≡ wordOf P L (b ∷ R)
+  unfolding valueOf only
+  word-cons b R =
+      pack-add (widthOf P L) (valueOf P L R) (only (fieldOf P b) 1) fields
+      ∙ pack-ext (widthOf P L) (λ f. valueOf P L R f + only (fieldOf P b) 1 f) (valueOf P L (b ∷ R)) fields
+      (λ f l. omega (arith, cc-cons (fieldOf P b) (map (fieldOf P) R) f))
+
+  module _ (R : List ℕ) (h : Fitting (widthOf P L) (valueOf P L R) fields) where
+    pub word-lt : bits P L ≤ 64 → wordOf P L R < 2 ^ 64
+    unfolding bits
+    word-lt s = lt-of-lt-of-le (pack-lt (widthOf P L) (valueOf P L R) fields h) (pow-mono s)
+
+    -- methods 2 and 3
+    pub word-overflows : eqb (bitAnd (wordOf P L R) (pack (widthOf P L) (λ f. topBit (widthOf P L f)) fields)) 0 ≡ not (overflows P L R)
+    unfolding overflows
+    word-overflows = tops-test (widthOf P L) (valueOf P L R) fields h
+
+    -- method 4
+    pub word-own-top : (b : ℕ) → b < 256 → eqb (bitAnd (wordOf P L R) (topOf P L (fieldOf P b))) 0 ≡ not (ownTopSet P L R b)
+    unfolding ownTopSet
+    word-own-top b l = own-top-test (widthOf P L) (valueOf P L R) (fieldOf P b) fields (field-lt P b l) h
