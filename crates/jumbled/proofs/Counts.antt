@@ -4,14 +4,14 @@ use mathlib.Core.Bool.{Bool, true, false, cond}
 use mathlib.Core.List.{List, [], _∷_, _++_}
 use mathlib.Core.Logic.{_⊎_, inl, inr}
 use Prim.Native.Nat.{ℕ, zero, suc, _+_, _-_, _≤_, _<_}
-use native.Mathlib.Nat.{add-assoc, zero-add, zero-sub, le-refl, le-trans, sub-le-sub-left}
+use native.Mathlib.Nat.{add-assoc, zero-add, zero-sub}
 use native.Mathlib.Omega.{arith}
 use lib.Dec.{eqb, leb}
 use lib.ListN.{length, getD, take, drop, take-append-drop}
 use lib.Seq.{take-append-seam, drop-append-seam}
-use borrow.Author.Tests.{eq-eqb, ne-eqb, eqb-true, eqb-false, le-leb, lt-leb}
-use Rattle.jumbled.specs.Match.{Bytes, bit, cc, sum, excess, window}
-use Rattle.jumbled.proofs.Sums.{below-or-not, sum-zeros, sum-suc, sum-ext, sum-mono, sum-add, sum-at, sum-same, sum-point}
+use borrow.Author.Tests.{ne-eqb, eqb-true, le-leb, lt-leb}
+use Rattle.jumbled.specs.Match.{Bytes, bit, cc, sum, excess}
+use Rattle.jumbled.proofs.Sums.{below-or-not, sum-zeros, sum-ext, sum-mono, sum-add, sum-at, sum-same, sum-point}
 
 -- ---- bytes
 

@@ -1,17 +1,16 @@
 -- The theorem of the two drivers: a sound scan, or a sound judgement, of one window makes its driver list exactly the matching positions.
 use mathlib.Core.Path.{_≡_, refl, sym, ap, ap₂, _∙_}
-use mathlib.Core.Bool.{Bool, true, false, cond}
-use mathlib.Core.List.{List, [], _∷_, _++_}
+use mathlib.Core.Bool.{Bool, false, cond}
+use mathlib.Core.List.{List, [], _∷_}
 use Prim.Native.Nat.{ℕ, zero, suc, _+_, _-_, _≤_, _<_}
-use native.Mathlib.Nat.{add-zero, add-suc, suc-add, le-trans, le-refl, zero-add}
+use native.Mathlib.Nat.{add-zero, add-suc, suc-add, le-trans, le-refl}
 use native.Mathlib.Omega.{arith}
-use lib.Dec.{leb}
 use lib.ListN.{length, take, drop, length-take, length-drop}
-use lib.Seq.{take-take, drop-drop, drop-nil}
+use lib.Seq.{take-take, drop-drop}
 use borrow.Author.Tests.{lt-leb}
 use Rattle.jumbled.specs.Match.{Bytes, cc, excess, matches, window, starts, select, positions}
-use Rattle.jumbled.specs.Scan.{Result, nothing, note, Scanned, backward, Judged, forward}
-use Rattle.jumbled.proofs.Counts.{bytes-take, bytes-drop, cc-nil, cc-cons, cc-take, cc-drop, excess-mono}
+use Rattle.jumbled.specs.Scan.{Scanned, backward, Judged, forward}
+use Rattle.jumbled.proofs.Counts.{bytes-take, bytes-drop, cc-nil, cc-take, cc-drop, excess-mono}
 
 -- ---- parts of windows
 

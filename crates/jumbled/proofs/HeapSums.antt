@@ -1,21 +1,21 @@
 -- Method 5's candidates: a window whose counts are the pattern's is one, and where (m + 1)^q ≤ 2^64 every candidate is such a window.
-use mathlib.Core.Path.{_≡_, refl, sym, ap, ap₂, _∙_}
-use mathlib.Core.Bool.{Bool, true, false, cond, not}
+use mathlib.Core.Path.{_≡_, refl, sym, ap, _∙_}
+use mathlib.Core.Bool.{Bool, true, false, cond}
 use mathlib.Core.List.{List, [], _∷_}
 use mathlib.Core.Logic.{_⊎_, inl, inr, ⊎-elim}
 use Prim.Native.Nat.{ℕ, zero, suc, _+_, _-_, _*_, _%_, _/_, _^_, _≤_, _<_}
-use native.Mathlib.Nat.{le-trans, le-refl, lt-of-lt-of-le, pow-suc, pow-succ', pow-le-pow-right, mod-eq-of-lt, add-mod-mod, add-mul, one-mul, zero-mul, mul-zero, mul-comm, add-comm, add-zero, zero-add, eq-zero-or-pos, zero-mod, le-of-eq, add-suc, not-suc-le-zero, one-le-pow, mul-le-mul-right}
+use native.Mathlib.Nat.{le-trans, le-refl, lt-of-lt-of-le, pow-succ', pow-le-pow-right, mod-eq-of-lt, add-mod-mod, add-mul, one-mul, zero-mul, mul-zero, add-comm, add-zero, eq-zero-or-pos, zero-mod, le-of-eq, add-suc, not-suc-le-zero, one-le-pow, mul-le-mul-right}
 use native.Mathlib.Numerals.{add-one}
 use native.Mathlib.Omega.{arith}
-use lib.Dec.{leb, eqb, lit<}
+use lib.Dec.{eqb}
 use lib.Arith.{digits-lt, digits-div, digits-mod}
 use lib.ListN.{length}
-use borrow.Author.Tests.{eq-eqb, ne-eqb, eqb-true, eqb-false, leb-true, le-leb, lt-leb}
+use borrow.Author.Tests.{eqb-true, eqb-false, leb-true, le-leb, lt-leb}
 use Rattle.jumbled.specs.Match.{Bytes, bit, cc, sum, excess, matches}
-use Rattle.jumbled.specs.Heap.{occurs, rank, base, heapValue, heapSum, exact}
+use Rattle.jumbled.specs.Heap.{rank, base, heapValue, heapSum, exact}
 use Rattle.jumbled.specs.Scan.{Judged, unverified}
 use Rattle.jumbled.specs.Steps.{hcamJudged}
-use Rattle.jumbled.proofs.Sums.{below-or-not, sum-zero, sum-suc, sum-ext, sum-add, sum-mono, sum-zeros, sum-point}
+use Rattle.jumbled.proofs.Sums.{below-or-not, sum-zero, sum-suc, sum-ext, sum-add, sum-zeros, sum-point}
 use Rattle.jumbled.proofs.Ranks.{rank-next, rank-some, rank-none, heapValue-some, heapValue-none}
 use Rattle.jumbled.proofs.Counts.{bytes-head, bytes-tail, cc-nil, cc-cons, cc-length, counts-of-excess, counts-of-enough, excess-of-counts}
 

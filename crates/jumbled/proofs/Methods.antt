@@ -1,19 +1,18 @@
 -- The theorem of the methods: what is not refused by 1 to 5 lists exactly the matching positions (demand 2, on the definitions).
-use mathlib.Core.Path.{_≡_, refl, sym, ap, _∙_}
-use mathlib.Core.Bool.{Bool, true, false, cond, not, _&&_, _||_}
-use mathlib.Core.List.{List, [], _∷_, reverse}
-use Prim.Native.Nat.{ℕ, zero, suc, _+_, _≤_, _<_}
+use mathlib.Core.Path.{_≡_, refl}
+use mathlib.Core.List.{List, reverse}
+use Prim.Native.Nat.{ℕ, zero, suc}
 use native.Mathlib.Nat.{zero-add, le-of-eq, not-suc-le-zero}
 use native.Mathlib.Omega.{arith}
-use lib.Dec.{leb, ltb, eqb}
+use lib.Dec.{ltb}
 use lib.ListN.{length}
-use Rattle.jumbled.specs.Match.{Bytes, matches, starts, select, positions}
-use Rattle.jumbled.specs.Scan.{Result, Scanned, scan, singles, pairs, backward, Judged, forward}
+use Rattle.jumbled.specs.Match.{Bytes, matches, starts, positions}
+use Rattle.jumbled.specs.Scan.{Scanned, singles, pairs, backward, Judged, forward}
 use Rattle.jumbled.specs.Fields.{bamLayout, bam2Layout, abamLayout, overflows, errors}
 use Rattle.jumbled.specs.Steps.{countJudged, bamScan, bam2Scan, abamScan, hcamJudged, steps}
 use Rattle.jumbled.specs.Refusals.{given, patternTests}
 use Rattle.jumbled.proofs.Admission.{MethodTaken, admitted}
-use Rattle.jumbled.proofs.Drivers.{Sound, matchesAt, backward-lists, forward-lists}
+use Rattle.jumbled.proofs.Drivers.{Sound, backward-lists, forward-lists}
 use Rattle.jumbled.proofs.Scans.{scan-sound, by-singles, by-pairs}
 use Rattle.jumbled.proofs.Overflow.{overflows-exact, errors-exact, bam-roomy, bam2-roomy, abam-roomy}
 use Rattle.jumbled.proofs.HeapSums.{hcam-judges}

@@ -1,14 +1,14 @@
 -- Laws of `sum` and `some`, and the two ways a comparison can come out.
-use mathlib.Core.Path.{_≡_, refl, sym, ap, ap₂, _∙_}
+use mathlib.Core.Path.{_≡_, refl, ap, ap₂}
 use mathlib.Core.Bool.{Bool, true, false, cond, _||_}
 use mathlib.Core.Logic.{_⊎_, inl, inr, ⊎-elim}
 use Prim.Native.Nat.{ℕ, zero, suc, _+_, _≤_, _<_}
-use native.Mathlib.Nat.{not-suc-le-zero, le-refl, add-le-add, zero-add, add-zero, lt-irrefl, lt-of-not-le}
+use native.Mathlib.Nat.{not-suc-le-zero, le-refl, add-le-add, zero-add, add-zero}
 use native.Mathlib.Decide.{decLt}
 use native.Mathlib.Omega.{arith}
 use lib.Dec.{eqb}
 use borrow.Author.Tests.{eq-eqb, ne-eqb}
-use Rattle.jumbled.specs.Match.{bit, sum}
+use Rattle.jumbled.specs.Match.{sum}
 use Rattle.jumbled.specs.Fields.{some}
 
 pub below-or-not : (a b : ℕ) → (a < b) ⊎ (b ≤ a)

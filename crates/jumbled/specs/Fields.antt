@@ -1,7 +1,7 @@
 -- The fields of methods 2, 3 and 4, each a number of its own: document 01, "The five methods", 2 to 4.
 -- A letter c of P has the field c. All other letters share the field 256.
 use Prim.Native.Nat.{ℕ, zero, suc, _+_, _-_, _/_, _%_, _^_, max}
-use mathlib.Core.Bool.{Bool, true, false, cond, _||_}
+use mathlib.Core.Bool.{Bool, false, cond, _||_}
 use mathlib.Core.List.{List, [], _∷_, map}
 use lib.Dec.{leb, eqb}
 use Rattle.jumbled.specs.Match.{bit, cc, sum}

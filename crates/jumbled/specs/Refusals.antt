@@ -1,5 +1,5 @@
 -- When a call says no: document 01, the section of that name. Numbers are those of its table; 0 says that nothing is refused.
-use Prim.Native.Nat.{ℕ, zero, suc}
+use Prim.Native.Nat.{ℕ}
 use mathlib.Core.Bool.{Bool, cond, not, _&&_, _||_}
 use mathlib.Core.List.{List, [], _∷_, _++_}
 use lib.Dec.{leb, ltb, eqb}
