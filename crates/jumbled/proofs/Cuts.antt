@@ -2,9 +2,10 @@
 use mathlib.Core.Path.{_≡_, refl, sym, ap, _∙_}
 use mathlib.Core.Bool.{Bool, true, false}
 use mathlib.Core.List.{List, [], _∷_, _++_, map}
-use Prim.Native.Nat.{ℕ, zero, suc, _+_, _-_, _<_}
-use native.Mathlib.Nat.{add-zero, add-suc, suc-add, add-assoc, zero-add, suc-sub-suc, zero-sub, sub-zero}
+use Prim.Native.Nat.{ℕ, zero, suc, _+_, _-_, _≤_, _<_, suc-le-suc}
+use native.Mathlib.Nat.{le-refl, le-step, add-zero, add-suc, suc-add, add-assoc, zero-add, suc-sub-suc, zero-sub, sub-zero}
 use native.Mathlib.Omega.{arith}
+use lib.ListN.{length}
 use Rattle.jumbled.specs.Match.{window}
 use Rattle.jumbled.specs.Scan.{Result, nothing, note, Scanned, backward, standing, Judged, forward}
 
@@ -72,6 +73,27 @@ module _ (scanned : List ℕ → Scanned) (m : ℕ) (T : List ℕ) where
       (scanned (window m T s) .offset - left)
   unfolding standing
   standing-at s left = standing-skip (suc s) left (scanned (window m T s) .offset)
+
+-- ---- at most one position a window start
+
+note-count : (t : Bool) (s taken left : ℕ) (r : Result) → length (r .positions) ≤ left → length (note t s taken r .positions) ≤ suc left
+note-count true s taken left r h = suc-le-suc h
+note-count false s taken left r h = le-step h
+
+pub backward-count : (scanned : List ℕ → Scanned) (m : ℕ) (T : List ℕ) (s left skip : ℕ) → length (backward scanned m T s left skip .positions) ≤ left
+unfolding backward
+backward-count scanned m T s zero skip = le-refl 0
+backward-count scanned m T s (suc left) (suc skip) = le-step (backward-count scanned m T (suc s) left skip)
+backward-count scanned m T s (suc left) zero =
+    let w : Scanned = scanned (window m T s) in
+    note-count (w .listed) s (w .inspections) left (backward scanned m T (suc s) left (w .offset)) (backward-count scanned m T (suc s) left (w .offset))
+
+pub forward-count : (judged : List ℕ → Judged) (m : ℕ) (T : List ℕ) (s left cost : ℕ) → length (forward judged m T s left cost .positions) ≤ left
+unfolding forward
+forward-count judged m T s zero cost = le-refl 0
+forward-count judged m T s (suc left) cost =
+    let w : Judged = judged (window m T s) in
+    note-count (w .listed) s (cost + w .verification) left (forward judged m T (suc s) left 1) (forward-count judged m T (suc s) left 1)
 
 -- ---- two texts whose windows agree, those of one d places further on
 

@@ -1,0 +1,88 @@
+// A search of a tail followed by a chunk, without joining them: first the windows that start in the tail, then those in the chunk.
+
+ghost use mathlib.Core.Path.{_≡_};
+ghost use mathlib.Core.List.{_++_};
+ghost use Prim.Native.Nat.{_+_, _-_, _^_, _≤_, _<_};
+ghost use lib.ListN.{length, take};
+ghost use Rattle.pieces.specs.Seam.{contents};
+ghost use Rattle.pieces.specs.Joined.{Parted};
+
+// How many positions a search found, and the inspections that it made.
+pub struct Done {
+    pub found: usize,
+    pub looks: usize,
+}
+
+// How many windows start in the tail, and how many in the chunk.
+struct Split {
+    in_tail: usize,
+    in_chunk: usize,
+}
+
+fn split_starts(m: usize, tail: usize, chunk: usize) -> Split
+    requires { ⌜ tail + chunk ≤ 2 ^ 32 ⌝ }
+    ensures { λ r. ⌜ Parted m tail chunk r ⌝ }
+{
+    let past = tail + chunk + 1;
+    if past <= m {
+        return Split {
+            in_tail: 0,
+            in_chunk: 0,
+        };
+    }
+    let starts = past - m;
+    if starts <= tail {
+        return Split {
+            in_tail: starts,
+            in_chunk: 0,
+        };
+    }
+    Split {
+        in_tail: tail,
+        in_chunk: starts - tail,
+    }
+}
+
+// The tail and the first bytes of a chunk: all that the windows which start in the tail reach.
+struct Seam {
+    bytes: [u8; 128],
+    len: usize,
+}
+
+impl Seam {
+    // The seam with the first count bytes of source at its end.
+    fn with(self, source: &[u8], count: usize) -> Seam
+        requires { ⌜ (count ≤ length (now source)) × (self .len + count ≤ 128) ⌝ }
+        ensures { λ r. ⌜ (contents r ≡ contents self ++ take count (now (source .entry))) × (r .len ≡ self .len + count) ⌝ }
+    {
+        let mut bytes = self.bytes;
+        let len = self.len;
+        let mut i = 0;
+        while i < count {
+            bytes[len + i] = source[i];
+            i += 1;
+        }
+        Seam {
+            bytes,
+            len: len + count,
+        }
+    }
+}
+
+// The tail and as much of the chunk as a window that starts in the tail can reach.
+fn seam_of(tail: &[u8], chunk: &[u8], m: usize) -> Seam
+    requires { ⌜ (length (now tail) < m) × (m ≤ 64) ⌝ }
+    ensures { λ r. ⌜ (contents r ≡ now (tail .entry) ++ take (m - 1) (now (chunk .entry))) × (r .len ≤ 128) ⌝ }
+{
+    let reach = m - 1;
+    let count = if chunk.len() < reach {
+        chunk.len()
+    } else {
+        reach
+    };
+    let empty = Seam {
+        bytes: [0u8; 128],
+        len: 0,
+    };
+    empty.with(tail, tail.len()).with(chunk, count)
+}
