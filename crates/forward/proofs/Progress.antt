@@ -5,13 +5,16 @@ use mathlib.Core.List.{List, [], _∷_, _++_, append-nil}
 use Prim.Native.Nat.{ℕ, suc, _+_, _-_, _*_, _^_, _≤_, _<_}
 use native.Mathlib.Nat.{sub-self}
 use native.Mathlib.Omega.{arith}
-use lib.ListN.{length, set, length-append}
-use Rattle.jumbled.specs.Match.{window}
+use lib.ListN.{length, getD, drop, set, length-append, length-take}
+use Rattle.jumbled.specs.Match.{Bytes, window}
 use Rattle.jumbled.specs.Scan.{Result, nothing, Judged, forward}
 use Rattle.jumbled.proofs.Cuts.{_then_, forward-cut}
+use Rattle.jumbled.proofs.Counts.{bytes-take, bytes-drop}
 use Rattle.listing.specs.declared.Stretch.{Stretch}
 use Rattle.listing.specs.Loops.{Fitting, Listed}
 use Rattle.listing.proofs.Listing.{share, listed-none, listed-skip, listed-more, listed-length}
+use Rattle.forward.specs.Windows.{lead}
+use Rattle.forward.proofs.Windows.{window-last, window-first}
 
 -- what the windows of a stretch before the one at s yield
 abbrev pub done : (List ℕ → Judged) → ℕ → List ℕ → Stretch → ℕ → Result
@@ -52,44 +55,87 @@ done-next judged m T stretch s h =
     let here : first + (s - first) ≡ s = omega arith in
     rw (more, forward-cut judged m T first (s - first) 1, here) (ap (λ (r : Result). done judged m T stretch s then r) (forward-one judged m T s))
 
-module _ (judged : List ℕ → Judged) (m : ℕ) (T : List ℕ) (stretch : Stretch) (before after : List ℕ) (at looks s : ℕ)
-    (fitting : Fitting T m before stretch) (so-far : Progress judged m T stretch before after at looks s) (in-loop : s < stretch .end) where
+-- the list is as long as it was
+pub kept-length : {judged : List ℕ → Judged} {m : ℕ} {T : List ℕ} {stretch : Stretch} {before after : List ℕ} {at looks s : ℕ}
+    → Fitting T m before stretch → Progress judged m T stretch before after at looks s → length after ≡ length before
+kept-length {judged} {m} {T} {stretch} {before} {s = s} fitting so-far =
+    listed-length stretch before (done judged m T stretch s) (so-far .listed) (omega (arith, fitting .room))
+
+-- ---- a turn of the loop
+
+-- What is known at the window start s
+pub record Turn (judged : List ℕ → Judged) (m : ℕ) (T : List ℕ) (stretch : Stretch) (before after : List ℕ) (at looks s : ℕ) : Type 0 where
+  pub fitting : Fitting T m before stretch
+  pub bytes : Bytes T
+  pub so-far : Progress judged m T stretch before after at looks s
+  pub in-loop : s < stretch .end
+
+module _ {judged : List ℕ → Judged} {m : ℕ} {T : List ℕ} {stretch : Stretch} {before after : List ℕ} {at looks s : ℕ}
+    (turn : Turn judged m T stretch before after at looks s) where
+  pub whole : s + m ≤ length T
+  whole = turn .fitting .whole s (turn .in-loop)
+
+  -- the byte that is taken, and the one that is given up
+  pub last-byte : getD T (s + (m - 1)) 0 < 256
+  last-byte = turn .bytes .below (s + (m - 1))
+
+  pub first-byte : getD T s 0 < 256
+  first-byte = turn .bytes .below s
+
+  pub by-last : window m T s ≡ lead m T s ++ (getD T (s + (m - 1)) 0 ∷ [])
+  by-last = window-last m T s (turn .fitting .some) whole
+
+  pub by-first : window m T s ≡ getD T s 0 ∷ lead m T (s + 1)
+  by-first = window-first m T s (turn .fitting .some) whole
+
+  pub lead-bytes : Bytes (lead m T s)
+  lead-bytes = bytes-take (m - 1) (drop s T) (bytes-drop s T (turn .bytes))
+
+  pub lead-short : length (lead m T s) ≤ 64
+  lead-short = omega (arith, turn .fitting .short, length-take (m - 1) (drop s T))
+
+  -- a listed window has a place, its position is a number of 32 bits, and the inspections can be counted
+  pub has-room : at < length before
+  has-room = omega (arith, turn .so-far .listed .next-place, turn .fitting .room)
+
+  pub has-place : at < length after
+  has-place = omega (arith, has-room, kept-length (turn .fitting) (turn .so-far))
+
+  pub has-number : stretch .base + s < 2 ^ 32
+  has-number = omega (arith, turn .fitting .numbered)
+
+  pub has-looks : looks + 65 < 2 ^ 64
+  has-looks = omega (arith, turn .so-far .bounded, turn .fitting .numbered)
+
   next : (t : Bool) → judged (window m T s) .listed ≡ t
       → done judged m T stretch (s + 1) ≡ done judged m T stretch s then share t s (1 + judged (window m T s) .verification)
   next t e =
-      done-next judged m T stretch s (so-far .from)
+      done-next judged m T stretch s (turn .so-far .from)
       ∙ ap (λ (u : Bool). done judged m T stretch s then share u s (1 + judged (window m T s) .verification)) e
 
-  -- a listed window has a place, and its position is a number of 32 bits
-  pub has-place : at < length after
-  has-place =
-      omega (arith, so-far .listed .next-place, fitting .room, listed-length stretch before (done judged m T stretch s) (so-far .listed) (omega (arith, fitting .room)))
-
-  pub has-number : stretch .base + s < 2 ^ 32
-  has-number = omega (arith, fitting .numbered)
-
-  pub kept-length : length after ≡ length before
-  kept-length = listed-length stretch before (done judged m T stretch s) (so-far .listed) (omega (arith, fitting .room))
-
-  module _ (verification : judged (window m T s) .verification ≤ 64) where
-    pub turn-listed : judged (window m T s) .listed ≡ true → (looked : ℕ) → looked ≡ looks + (1 + judged (window m T s) .verification)
+  module _ (looked : ℕ) (counted : looked ≡ looks + (1 + judged (window m T s) .verification)) (bounded : looked ≤ looks + 65) where
+    pub turn-listed : judged (window m T s) .listed ≡ true
         → Progress judged m T stretch before (set after at (stretch .base + s)) (at + 1) looked (s + 1)
-    turn-listed e looked q =
+    turn-listed e =
         record {
           from = omega arith;
           within = omega arith;
-          listed = rw (next true e, q) (listed-more stretch before (done judged m T stretch s) (so-far .listed) s _ (omega (arith, fitting .room)));
+          listed =
+              rw (next true e, counted)
+              (listed-more stretch before (done judged m T stretch s) (turn .so-far .listed) s (1 + judged (window m T s) .verification)
+              (omega (arith, turn .fitting .room)));
           few = rw (next true e, length-append (done judged m T stretch s .positions) (s ∷ [])) (omega arith);
-          bounded = omega arith;
+          bounded = omega (arith, turn .so-far .bounded);
         }
 
-    pub turn-skipped : judged (window m T s) .listed ≡ false → (looked : ℕ) → looked ≡ looks + (1 + judged (window m T s) .verification)
-        → Progress judged m T stretch before after at looked (s + 1)
-    turn-skipped e looked q =
+    pub turn-skipped : judged (window m T s) .listed ≡ false → Progress judged m T stretch before after at looked (s + 1)
+    turn-skipped e =
         record {
           from = omega arith;
           within = omega arith;
-          listed = rw (next false e, q) (listed-skip stretch before (done judged m T stretch s) (so-far .listed) s _);
+          listed =
+              rw (next false e, counted)
+              (listed-skip stretch before (done judged m T stretch s) (turn .so-far .listed) s (1 + judged (window m T s) .verification));
           few = rw (next false e, append-nil (done judged m T stretch s .positions)) (omega arith);
-          bounded = omega arith;
+          bounded = omega (arith, turn .so-far .bounded);
         }
