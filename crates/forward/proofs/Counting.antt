@@ -3,7 +3,7 @@ use mathlib.Core.Path.{_≡_, refl, sym, ap, ap₂, _∙_}
 use mathlib.Core.Bool.{Bool, true, false, cond}
 use mathlib.Core.List.{List, [], _∷_, _++_, append-nil}
 use Prim.Native.Nat.{ℕ, _+_, _-_, _≤_, _<_}
-use native.Mathlib.Nat.{add-comm}
+use native.Mathlib.Nat.{add-comm, le-of-eq}
 use native.Mathlib.Omega.{arith}
 use lib.Dec.{leb, eqb}
 use lib.ListN.{length, getD, set, replicate}
@@ -12,8 +12,8 @@ use mir.Val.{boolByte}
 use borrow.Author.Tests.{eq-eqb, eqb-true, le-leb, lt-leb}
 use Rattle.jumbled.specs.Match.{Bytes, bit, cc, sum, excess, matches}
 use Rattle.jumbled.specs.Steps.{countJudged}
-use Rattle.jumbled.proofs.Sums.{sum-ext}
-use Rattle.jumbled.proofs.Counts.{cc-cons, cc-append, cc-length, excess-nil, excess-cons, excess-append}
+use Rattle.jumbled.proofs.Sums.{sum-ext, sum-zeros}
+use Rattle.jumbled.proofs.Counts.{cc-cons, cc-append, cc-length, excess-nil, excess-cons, excess-append, excess-at}
 use Rattle.parikh.specs.Table.{parikh}
 use Rattle.parikh.proofs.Tables.{tabulate-ext, tabulate-set}
 use Rattle.parikh.proofs.Parikh.{length-parikh, getD-parikh, parikh-nil, parikh-snoc}
@@ -117,3 +117,15 @@ module _ {P W counts : List ℕ} {surplus : ℕ} (state : Counting P W counts su
 pub judged-unverified : (P : List ℕ) (k : ℕ) (W : List ℕ) → countJudged P k W .verification ≡ 0
 unfolding countJudged
 judged-unverified P k W = refl
+
+-- ---- a candidate is verified: no byte is in the window more often than in the pattern
+
+pub matches-none-over : (P W : List ℕ) → ((c : ℕ) → c < 256 → cc W c ≤ cc P c) → matches P 0 W ≡ true
+unfolding matches excess
+matches-none-over P W h =
+    le-leb (excess P W) 0
+    (le-of-eq (sum-ext 256 (λ c. cc W c - cc P c) (λ c. 0) (λ c l. omega (arith, h c l)) ∙ sum-zeros 256 (λ c. 0) (λ c. refl)))
+
+pub matches-one-over : (P W : List ℕ) (c : ℕ) → c < 256 → cc P c < cc W c → matches P 0 W ≡ false
+unfolding matches
+matches-one-over P W c l h = lt-leb (excess P W) 0 (omega (arith, excess-at P W c l))

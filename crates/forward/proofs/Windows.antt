@@ -9,6 +9,10 @@ use lib.Seq.{take-suc, drop-cons, getD-drop}
 use Rattle.jumbled.specs.Match.{window}
 use Rattle.forward.specs.Windows.{lead}
 
+-- one byte more
+pub take-next : (T : List ℕ) (i : ℕ) → i < length T → take (i + 1) T ≡ take i T ++ (getD T i 0 ∷ [])
+take-next T i h = rw (add-one i) (take-suc T i 0 h)
+
 module _ (m : ℕ) (T : List ℕ) (s : ℕ) (some : 1 ≤ m) (whole : s + m ≤ length T) where
   one-more : m ≡ suc (m - 1)
   one-more = omega arith

@@ -3,16 +3,15 @@ use mathlib.Core.Path.{_≡_, refl, sym, ap, _∙_}
 use mathlib.Core.Bool.{Bool}
 use mathlib.Core.List.{List}
 use Prim.Native.Nat.{ℕ, _≤_, _<_, _-_, _+_}
-use native.Mathlib.Numerals.{add-one}
 use native.Mathlib.Omega.{arith}
 use mir.Val.{boolByte}
 use lib.Dec.{leb}
 use lib.ListN.{length, getD, take, set, length-take}
-use lib.Seq.{take-suc}
 use Rattle.jumbled.specs.Match.{Bytes}
 use Rattle.jumbled.proofs.Counts.{bytes-take}
 use Rattle.parikh.specs.Table.{parikh}
 use Rattle.forward.specs.Counting.{Counting}
+use Rattle.forward.proofs.Windows.{take-next}
 use Rattle.forward.proofs.Counting.{counting-none, counting-more, counter-room, surplus-room}
 use Rattle.forward.proofs.count_start.Statement.{statement}
 use Rattle.forward.proofs.count_start.Tie as tie
@@ -107,7 +106,7 @@ loop-again c =
     record {
       within = omega arith;
       state =
-          rw (add-one (loop .i), take-suc T (loop .i) 0 (omega arith))
+          rw (take-next T (loop .i) (omega arith))
           (counting-more (loop .inv .state) (c .before .before .before .pre .pattern-counts) (byte c));
       inspected = omega (arith, loop .inv .inspected);
     }
