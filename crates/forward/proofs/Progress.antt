@@ -5,7 +5,7 @@ use mathlib.Core.List.{List, [], _∷_, _++_, append-nil}
 use Prim.Native.Nat.{ℕ, suc, _+_, _-_, _*_, _^_, _≤_, _<_}
 use native.Mathlib.Nat.{sub-self}
 use native.Mathlib.Omega.{arith}
-use lib.ListN.{length, getD, drop, set, length-append, length-take}
+use lib.ListN.{length, getD, drop, set, length-append, length-take, length-drop}
 use Rattle.jumbled.specs.Match.{Bytes, window}
 use Rattle.jumbled.specs.Scan.{Result, nothing, Judged, forward}
 use Rattle.jumbled.proofs.Cuts.{_then_, forward-cut}
@@ -76,17 +76,20 @@ module _ {judged : List ℕ → Judged} {m : ℕ} {T : List ℕ} {stretch : Stre
   whole = turn .fitting .whole s (turn .in-loop)
 
   -- the byte that is taken, and the one that is given up
-  pub last-byte : getD T (s + (m - 1)) 0 < 256
-  last-byte = turn .bytes .below (s + (m - 1))
+  pub last-byte : getD T (s + m - 1) 0 < 256
+  last-byte = turn .bytes .below (s + m - 1)
 
   pub first-byte : getD T s 0 < 256
   first-byte = turn .bytes .below s
 
-  pub by-last : window m T s ≡ lead m T s ++ (getD T (s + (m - 1)) 0 ∷ [])
+  pub by-last : window m T s ≡ lead m T s ++ (getD T (s + m - 1) 0 ∷ [])
   by-last = window-last m T s (turn .fitting .some) whole
 
   pub by-first : window m T s ≡ getD T s 0 ∷ lead m T (s + 1)
   by-first = window-first m T s (turn .fitting .some) whole
+
+  pub window-whole : length (window m T s) ≡ m
+  window-whole = omega (arith, length-take m (drop s T), length-drop s T, whole)
 
   pub lead-bytes : Bytes (lead m T s)
   lead-bytes = bytes-take (m - 1) (drop s T) (bytes-drop s T (turn .bytes))

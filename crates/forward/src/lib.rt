@@ -69,7 +69,7 @@ pub fn count_windows(
     requires { ⌜ CountSearchable (now pattern) «pattern_counts» (now text) sliding stretch (now list) ⌝ }
     ensures { λ r. ⌜ CountSearched (now (pattern .entry)) k (now (text .entry)) stretch (now (list .entry)) (now (list .exit)) r ⌝ }
 {
-    let last = pattern.len() - 1;
+    let m = pattern.len();
     let base = stretch.base;
     let end = stretch.end;
     let mut counts = sliding.counts;
@@ -77,7 +77,7 @@ pub fn count_windows(
     let mut at = stretch.at;
     let mut looks = 0;
     for s in stretch.first..end {
-        let taken = text[s + last] as usize;
+        let taken = text[s + m - 1] as usize;
         looks += 1;
         surplus += (counts[taken] >= pattern_counts[taken]) as usize;
         counts[taken] += 1;
@@ -165,7 +165,7 @@ pub fn hcam_windows(
     requires { ⌜ HcamSearchable (now pattern) «pattern_counts» table target (now text) sum stretch (now list) ⌝ }
     ensures { λ r. ⌜ HcamSearched (now (pattern .entry)) (now (text .entry)) stretch (now (list .entry)) (now (list .exit)) r ⌝ }
 {
-    let last = pattern.len() - 1;
+    let m = pattern.len();
     let values = table.values;
     let base = stretch.base;
     let end = stretch.end;
@@ -173,12 +173,12 @@ pub fn hcam_windows(
     let mut at = stretch.at;
     let mut looks = 0;
     for s in stretch.first..end {
-        let taken = text[s + last] as usize;
+        let taken = text[s + m - 1] as usize;
         looks += 1;
         sum = std::num::wrapping_add_u64(sum, values[taken]);
         let mut listed = sum == target;
         if listed && !table.exact {
-            let window = &text[s..s + last + 1];
+            let window = &text[s..s + m];
             looks += window.len();
             listed = verified(pattern_counts, window);
         }

@@ -47,7 +47,7 @@ spent wanted counts b = boolByte (leb (getD wanted b 0) (getD counts b 0))
 module _ {P wanted : List ℕ} {k : ℕ} {T : List ℕ} {stretch : Stretch} {before after counts : List ℕ} {surplus at looks s : ℕ}
     (here : Counts P wanted k T stretch before after counts surplus at looks s) where
   abbrev taken : ℕ
-  taken = getD T (s + (length P - 1)) 0
+  taken = getD T (s + length P - 1) 0
   
   abbrev first : ℕ
   first = getD T s 0
@@ -85,11 +85,11 @@ module _ {P wanted : List ℕ} {k : ℕ} {T : List ℕ} {stretch : Stretch} {bef
   again-skipped h = turn-skipped (here .turn) (looks + 1) looked-once (omega arith) (judged-wrong over-window h)
 
 abbrev Inv-loop : tie.InvT-loop
-Inv-loop pattern k text list₀ pattern-counts last base end counts₀ surplus₀ at₀ looks₀ s₀ list counts surplus at looks s =
+Inv-loop pattern k text list₀ pattern-counts m base end counts₀ surplus₀ at₀ looks₀ s₀ list counts surplus at looks s =
     Running pattern k text (record { first = s₀; end = end; base = base; at = at₀ }) list₀ list counts surplus at looks s
 
 abbrev μ-loop : tie.MeasureT-loop
-μ-loop pattern k text list₀ pattern-counts last base end counts₀ surplus₀ at₀ looks₀ s₀ list counts surplus at looks s = end - s
+μ-loop pattern k text list₀ pattern-counts m base end counts₀ surplus₀ at₀ looks₀ s₀ list counts surplus at looks s = end - s
 
 counts-here : (c : tie.After-shared-slice-known Inv-loop μ-loop)
     → Counts (c .before .before .before .before .args .pattern .now) (c .before .before .before .before .args .t2)
@@ -111,9 +111,6 @@ counts-here c =
       state = running .state;
     }
 
-sub-last : tie.Need-sub-last Inv-loop μ-loop
-sub-last c = c .pre .fitting .some
-
 loop-holds : tie.Need-loop-holds Inv-loop μ-loop
 loop-holds c =
     let args = c .before .args in
@@ -126,6 +123,9 @@ loop-holds c =
 
 add-taken : tie.Need-add-taken Inv-loop μ-loop
 add-taken c = omega (arith, c .before .before .before .pre .fitting .whole (c .before .loop .s) (c .loop-test .taken))
+
+sub-taken : tie.Need-sub-taken Inv-loop μ-loop
+sub-taken c = omega (arith, c .before .before .before .pre .fitting .some)
 
 shared-slice-read-taken : tie.Need-shared-slice-read-taken Inv-loop μ-loop
 shared-slice-read-taken c = omega (arith, whole (counts-here c .turn))
@@ -251,9 +251,9 @@ count-windows-spec =
     (tie.spec
     Inv-loop
     μ-loop
-    sub-last
     loop-holds
     add-taken
+    sub-taken
     shared-slice-read-taken
     cast-taken
     add-looks

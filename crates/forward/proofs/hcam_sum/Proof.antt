@@ -1,5 +1,5 @@
 -- `forward::hcam_sum` meets its contract. The loop's invariant: the sum is that of the bytes passed.
-use mathlib.Core.Path.{_≡_, sym, ap, ap₂, _∙_}
+use mathlib.Core.Path.{_≡_, sym, ap, _∙_}
 use mathlib.Core.List.{List}
 use Prim.Native.Nat.{ℕ, _≤_, _<_, _-_, _+_, _%_, _^_}
 use native.Mathlib.Omega.{arith}
@@ -7,9 +7,8 @@ use lib.ListN.{length, getD, take}
 use lib.Seq.{take-all}
 use Rattle.jumbled.specs.Heap.{heapValue, heapSum}
 use Rattle.parikh.specs.Table.{tabulate}
-use Rattle.parikh.proofs.Tables.{getD-tabulate}
 use Rattle.forward.proofs.Windows.{take-next}
-use Rattle.forward.proofs.Hashing.{heapSum-nil, heapSum-snoc}
+use Rattle.forward.proofs.Hashing.{heapSum-nil, summing-more}
 use Rattle.forward.proofs.hcam_sum.Statement.{statement}
 use Rattle.forward.proofs.hcam_sum.Tie as tie
 
@@ -51,13 +50,10 @@ loop-again : tie.Need-loop-again Inv-loop μ-loop
 loop-again c =
     let loop = c .before .before .before .loop in
     let bytes = c .before .before .before .before .before .args .bytes .now in
-    let taken = getD bytes (loop .i) 0 in (
+    (
       omega arith,
       λ P e.
-          c .wrapping-add-u64 .ensures
-          ∙ ap₂ (λ (a b : ℕ). (a + b) % 2 ^ 64) (loop .inv .1 P e)
-          (ap (λ (l : List ℕ). getD l taken 0) e ∙ getD-tabulate 256 (heapValue P) taken (byte (c .before)))
-          ∙ sym (heapSum-snoc P (take (loop .i) bytes) taken)
+          summing-more P e (take (loop .i) bytes) (byte (c .before)) (loop .inv .1 P e) (c .wrapping-add-u64 .ensures)
           ∙ ap (heapSum P) (sym (take-next bytes (loop .i) (omega arith))),
     )
 
