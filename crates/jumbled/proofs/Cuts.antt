@@ -2,10 +2,10 @@
 use mathlib.Core.Path.{_≡_, refl, sym, ap, _∙_}
 use mathlib.Core.Bool.{Bool, true, false}
 use mathlib.Core.List.{List, [], _∷_, _++_, map}
-use Prim.Native.Nat.{ℕ, zero, suc, _+_, _-_, _≤_, _<_, suc-le-suc}
-use native.Mathlib.Nat.{le-refl, le-step, add-zero, add-suc, suc-add, add-assoc, zero-add, suc-sub-suc, zero-sub, sub-zero}
+use Prim.Native.Nat.{ℕ, zero, suc, _+_, _-_, _*_, _≤_, _<_, suc-le-suc}
+use native.Mathlib.Nat.{le-refl, mul-suc, le-step, add-zero, add-suc, suc-add, add-assoc, zero-add, suc-sub-suc, zero-sub, sub-zero}
 use native.Mathlib.Omega.{arith}
-use lib.ListN.{length}
+use lib.ListN.{length, take, drop, length-take}
 use Rattle.jumbled.specs.Match.{window}
 use Rattle.jumbled.specs.Scan.{Result, nothing, note, Scanned, backward, standing, Judged, forward}
 
@@ -94,6 +94,33 @@ forward-count judged m T s zero cost = le-refl 0
 forward-count judged m T s (suc left) cost =
     let w : Judged = judged (window m T s) in
     note-count (w .listed) s (cost + w .verification) left (forward judged m T (suc s) left 1) (forward-count judged m T (suc s) left 1)
+
+-- ---- bounds on the inspections
+
+note-most : (t : Bool) (s taken most left : ℕ) (r : Result) → taken ≤ most → r .inspections ≤ most * left → note t s taken r .inspections ≤ most * suc left
+note-most t s taken most left r h g = rw (mul-suc most left) (omega arith)
+
+-- no window's scan makes more than `most`
+pub backward-most : (scanned : List ℕ → Scanned) (m : ℕ) (T : List ℕ) (most : ℕ) → ((W : List ℕ) → length W ≤ m → scanned W .inspections ≤ most)
+    → (s left skip : ℕ) → backward scanned m T s left skip .inspections ≤ most * left
+unfolding backward
+backward-most scanned m T most h s zero skip = omega arith
+backward-most scanned m T most h s (suc left) (suc skip) =
+    rw (mul-suc most left) (omega (arith, backward-most scanned m T most h (suc s) left skip))
+backward-most scanned m T most h s (suc left) zero =
+    let w : Scanned = scanned (window m T s) in
+    note-most (w .listed) s (w .inspections) most left (backward scanned m T (suc s) left (w .offset))
+    (h (window m T s) (omega (arith, length-take m (drop s T)))) (backward-most scanned m T most h (suc s) left (w .offset))
+
+-- no window's verification adds more than `most`
+pub forward-most : (judged : List ℕ → Judged) (m : ℕ) (T : List ℕ) (most : ℕ) → ((W : List ℕ) → judged W .verification ≤ most)
+    → (s left : ℕ) → forward judged m T s left 1 .inspections ≤ (1 + most) * left
+unfolding forward
+forward-most judged m T most h s zero = omega arith
+forward-most judged m T most h s (suc left) =
+    let w : Judged = judged (window m T s) in
+    note-most (w .listed) s (1 + w .verification) (1 + most) left (forward judged m T (suc s) left 1) (omega (arith, h (window m T s)))
+    (forward-most judged m T most h (suc s) left)
 
 -- ---- two texts whose windows agree, those of one d places further on
 

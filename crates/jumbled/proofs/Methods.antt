@@ -1,7 +1,7 @@
 -- The theorem of the methods: what is not refused by 1 to 5 lists exactly the matching positions (demand 2, on the definitions).
 use mathlib.Core.Path.{_≡_, refl}
-use mathlib.Core.List.{List, reverse}
-use Prim.Native.Nat.{ℕ, zero, suc}
+use mathlib.Core.List.{List, [], reverse}
+use Prim.Native.Nat.{ℕ, zero, suc, _≤_}
 use native.Mathlib.Nat.{zero-add, le-of-eq, not-suc-le-zero}
 use native.Mathlib.Omega.{arith}
 use lib.Dec.{ltb}
@@ -13,7 +13,7 @@ use Rattle.jumbled.specs.Steps.{countJudged, bamScan, bam2Scan, abamScan
 use Rattle.jumbled.specs.Refusals.{given, patternTests}
 use Rattle.jumbled.proofs.Admission.{MethodTaken, admitted}
 use Rattle.jumbled.proofs.Drivers.{Sound, backward-lists, forward-lists}
-use Rattle.jumbled.proofs.Scans.{scan-sound, by-singles, by-pairs}
+use Rattle.jumbled.proofs.Scans.{scan-sound, scan-most, by-singles, by-pairs}
 use Rattle.jumbled.proofs.Overflow.{overflows-exact, errors-exact, bam-roomy, bam2-roomy, abam-roomy}
 use Rattle.jumbled.proofs.HeapSums.{hcam-judges}
 
@@ -34,6 +34,20 @@ unfolding abamScan
 abam-sound P k hP =
     scan-sound P k 1 (λ R. ltb k (errors P (abamLayout k) R)) (errors-exact P k 1 (abamLayout k) hP (abam-roomy k))
     (λ W. singles (reverse W)) by-singles
+
+-- and makes at most one inspection for each byte of the window
+pub bam-most : (P W : List ℕ) → bamScan P W .inspections ≤ length W
+unfolding bamScan
+bam-most P W = omega (arith, scan-most (overflows P bamLayout) (length P) 1 [] W (singles (reverse W)) (by-singles W))
+
+pub bam2-most : (P W : List ℕ) → bam2Scan P W .inspections ≤ length W
+unfolding bam2Scan
+bam2-most P W = omega (arith, scan-most (overflows P bam2Layout) (length P) 2 [] W (pairs (reverse W)) (by-pairs W))
+
+pub abam-most : (P : List ℕ) (k : ℕ) (W : List ℕ) → abamScan P k W .inspections ≤ length W
+unfolding abamScan
+abam-most P k W =
+    omega (arith, scan-most (λ R. ltb k (errors P (abamLayout k) R)) (length P) 1 [] W (singles (reverse W)) (by-singles W))
 
 -- ---- from the first window start on
 

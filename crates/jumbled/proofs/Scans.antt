@@ -76,6 +76,19 @@ module _ (P : List ℕ) (k q : ℕ) (stop : List ℕ → Bool) (exact : Exact P 
           rw (append-nil W) at
           (scan-right (length P) [] W (cut W) (groups W) b bytes-nil (rw (excess-nil P) (omega arith)) (ap length (append-nil W) ∙ e))
 
+-- a scan takes no byte twice
+pub scan-most : (stop : List ℕ → Bool) (m q : ℕ) (R U : List ℕ) (groups : List (List ℕ)) → Groups q U groups
+    → scan stop m R groups .inspections ≤ length U + length R
+unfolding scan
+scan-most stop m q R U groups none = omega arith
+scan-most stop m q R U groups (more {U = left} {groups = later} group small rest) =
+    case (stop (group ++ R)) (scan-most stop m q (group ++ R) left later rest)
+  where
+    case : (t : Bool) → scan stop m (group ++ R) later .inspections ≤ length left + length (group ++ R)
+        → cond t (stopped m (group ++ R)) (scan stop m (group ++ R) later) .inspections ≤ length (left ++ group) + length R
+    case true h = omega (arith, length-append left group, length-append group R)
+    case false h = omega (arith, length-append left group, length-append group R)
+
 -- ---- the two ways of cutting a window
 
 singles-groups : (U : List ℕ) → Groups 1 (reverse U) (singles U)

@@ -2,7 +2,7 @@
 use mathlib.Core.Path.{_≡_, refl, sym, ap, ap₂, _∙_}
 use mathlib.Core.List.{List, [], _∷_, _++_, map}
 use Prim.Native.Nat.{ℕ, zero, suc, _+_, _-_, _≤_, _<_, min}
-use native.Mathlib.Nat.{add-zero, zero-add, zero-sub}
+use native.Mathlib.Nat.{add-zero, zero-add, add-assoc, zero-sub}
 use native.Mathlib.Omega.{arith}
 use lib.ListN.{length, take, drop, length-append, length-take, length-drop}
 use lib.Seq.{drop-append-le, drop-append-add, drop-append-seam, take-take}
@@ -13,7 +13,7 @@ use Rattle.listing.specs.Loops.{Listed}
 use Rattle.listing.specs.declared.Stretch.{Stretch}
 use Rattle.listing.proofs.Placing.{placed-nil, placed-placed, length-shifted, shifted-append, shifted-shifted}
 use Rattle.pieces.specs.declared.Done.{Done}
-use Rattle.pieces.specs.Joined.{Found}
+use Rattle.pieces.specs.Joined.{Found, primed}
 use Rattle.jumbled.proofs.Cuts.{_then_, moved, Agree, backward-cut, backward-skip, backward-agree, standing-agree, forward-cut, forward-primed, forward-agree}
 
 -- only so much of what follows matters to the first m elements
@@ -81,17 +81,20 @@ module _ (scanned : List ℕ → Scanned) (m : ℕ) (tail chunk : List ℕ) wher
           ∙ backward-agree scanned m (tail ++ chunk) (length tail) chunk 0 (suc left) skip (chunk-agrees m tail chunk (suc left))
           ∙ ap (moved (length tail)) (backward-skip scanned m chunk 0 (suc left) skip ∙ ap (λ (n : ℕ). backward scanned m chunk n (suc left - skip) 0) (zero-add skip))
 
+primed-then : (n : ℕ) (a b : Result) → primed n (a then b) ≡ primed n a then b
+primed-then n a b =
+    ap (λ (i : ℕ). record { positions = a .positions ++ b .positions; inspections = i }) (sym (add-assoc n (a .inspections) (b .inspections)))
+
 module _ (judged : List ℕ → Judged) (m : ℕ) (tail chunk : List ℕ) where
   pub forward-joined : (a b : ℕ) → 1 ≤ m → a + b ≡ starts m (tail ++ chunk) → 0 < a + b → a ≤ length tail → (0 < b → a ≡ length tail)
       → forward judged m (tail ++ chunk) 0 (starts m (tail ++ chunk)) m
-      ≡ record { positions = []; inspections = m - 1 }
-      then (forward judged m (tail ++ take (m - 1) chunk) 0 a 1 then moved (length tail) (forward judged m chunk 0 b 1))
+      ≡ primed (m - 1) (forward judged m (tail ++ take (m - 1) chunk) 0 a 1) then moved (length tail) (forward judged m chunk 0 b 1)
   unfolding forward
   forward-joined a b some all any inside full =
       ap₂ (λ (n cost : ℕ). forward judged m (tail ++ chunk) 0 n cost) (sym all) (omega arith)
       ∙ forward-primed judged m (tail ++ chunk) 0 (a + b) (m - 1) any
-      ∙ ap (λ (r : Result). record { positions = []; inspections = m - 1 } then r)
-      (forward-cut judged m (tail ++ chunk) 0 a b ∙ ap₂ _then_ first (second b full))
+      ∙ ap (primed (m - 1)) (forward-cut judged m (tail ++ chunk) 0 a b ∙ ap₂ _then_ first (second b full))
+      ∙ primed-then (m - 1) (forward judged m (tail ++ take (m - 1) chunk) 0 a 1) (moved (length tail) (forward judged m chunk 0 b 1))
     where
       first : forward judged m (tail ++ chunk) 0 a 1 ≡ forward judged m (tail ++ take (m - 1) chunk) 0 a 1
       first =
@@ -139,3 +142,12 @@ pub found-one : (one : Result) (base f e : ℕ) (before after : List ℕ) (at lo
     → Found one base before after (record { found = at; looks = looks })
 found-one one base f e before after at looks l =
     record { filled = l .filled; found = l .next-place ∙ zero-add (length (one .positions)); looks = l .inspected }
+
+-- no window starts: nothing is listed
+pub found-none : (result : Result) (base : ℕ) (list : List ℕ) → result ≡ nothing → Found result base list list (record { found = 0; looks = 0 })
+unfolding shifted
+found-none result base list e = rw e (record { filled = sym (placed-nil list 0); found = refl; looks = refl })
+
+pub forward-none : (judged : List ℕ → Judged) (m : ℕ) (T : List ℕ) (left cost : ℕ) → left ≡ 0 → forward judged m T 0 left cost ≡ nothing
+unfolding forward
+forward-none judged m T left cost e = rw e refl

@@ -1,1 +1,4 @@
 pub mod Joins
+pub mod Seams
+pub mod Stretches
+pub mod Forwards

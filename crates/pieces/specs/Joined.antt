@@ -3,8 +3,11 @@ use mathlib.Core.Path.{_≡_}
 use mathlib.Core.List.{List, _++_}
 use Prim.Native.Nat.{ℕ, suc, _+_, _-_, _^_, _≤_, _<_, min}
 use lib.ListN.{length}
-use Rattle.jumbled.specs.Scan.{Result}
+use Rattle.jumbled.specs.Match.{starts}
+use Rattle.jumbled.specs.Scan.{Result, Scanned, backward, Judged, forward}
 use Rattle.jumbled.specs.Fields.{bits, layoutOf}
+use Rattle.listing.specs.declared.Stretch.{Stretch}
+use Rattle.listing.specs.Loops.{Fitting}
 use Rattle.listing.specs.Placed.{placed, shifted}
 use Rattle.pieces.specs.declared.Done.{Done}
 use Rattle.pieces.specs.declared.Split.{Split}
@@ -26,3 +29,22 @@ pub record Found (result : Result) (base : ℕ) (before after : List ℕ) (r : D
   pub filled : after ≡ placed before 0 (shifted base (result .positions))
   pub found : r .found ≡ length (result .positions)
   pub looks : r .looks ≡ result .inspections
+
+-- A driver over all window starts of a text
+abbrev pub forwardOver : (List ℕ → Judged) → ℕ → List ℕ → Result
+forwardOver judged m T = forward judged m T 0 (starts m T) m
+
+abbrev pub backwardOver : (List ℕ → Scanned) → ℕ → List ℕ → Result
+backwardOver scanned m T = backward scanned m T 0 (starts m T) 0
+
+-- ---- the forward methods' windows in the seam
+
+-- The inspections made before the first window's last byte, and then what a stretch yields
+abbrev pub primed : ℕ → Result → Result
+primed before r = record { positions = r .positions; inspections = before + r .inspections }
+
+-- The stretch begins at the first window of the text T, whose bytes but the last are there
+pub record Startable (P T : List ℕ) (stretch : Stretch) (list : List ℕ) : Type 0 where
+  pub fitting : Fitting T (length P) list stretch
+  pub from-first : stretch .first ≡ 0
+  pub enough : length P - 1 ≤ length T

@@ -1,2 +1,3 @@
 pub mod Seam
 pub mod Joined
+pub mod Counting

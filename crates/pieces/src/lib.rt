@@ -5,7 +5,12 @@ ghost use mathlib.Core.List.{_++_};
 ghost use Prim.Native.Nat.{_+_, _-_, _^_, _≤_, _<_};
 ghost use lib.ListN.{length, take};
 ghost use Rattle.pieces.specs.Seam.{contents};
-ghost use Rattle.pieces.specs.Joined.{Parted};
+ghost use Rattle.parikh.specs.Table.{parikh};
+ghost use Rattle.jumbled.specs.Steps.{countJudged};
+ghost use Rattle.pieces.specs.Joined.{Parted, Joinable, Found, Startable, forwardOver};
+ghost use Rattle.pieces.specs.Counting.{CountedSeam};
+use forward::Counted;
+use listing::Stretch;
 
 // How many positions a search found, and the inspections that it made.
 pub struct Done {
@@ -85,4 +90,90 @@ fn seam_of(tail: &[u8], chunk: &[u8], m: usize) -> Seam
         len: 0,
     };
     empty.with(tail, tail.len()).with(chunk, count)
+}
+
+// Method 1 over the windows of the seam, from its first one on.
+fn count_seam(
+    pattern: &[u8],
+    pattern_counts: [usize; 256],
+    k: usize,
+    seam: &[u8],
+    stretch: Stretch,
+    list: &mut [u32],
+) -> Counted
+    requires { ⌜ (Startable (now pattern) (now seam) stretch (now list)) × («pattern_counts» ≡ parikh (now pattern)) ⌝ }
+    ensures { λ r. ⌜ CountedSeam (now (pattern .entry)) k (now (seam .entry)) stretch (now (list .entry)) (now (list .exit)) r ⌝ }
+{
+    let start = forward::count_start(pattern, pattern_counts, seam);
+    let windows = forward::count_windows(
+        pattern,
+        pattern_counts,
+        k,
+        seam,
+        start.sliding,
+        stretch,
+        list,
+    );
+    let sliding = windows.sliding;
+    Counted {
+        sliding,
+        at: windows.at,
+        looks: start.looks + windows.looks,
+    }
+}
+
+// Method 1 over a tail followed by a chunk.
+pub fn count_pieces(
+    pattern: &[u8],
+    k: usize,
+    tail: &[u8],
+    chunk: &[u8],
+    base: usize,
+    list: &mut [u32],
+) -> Done
+    requires { ⌜ Joinable (now pattern) (now tail) (now chunk) base (now list) ⌝ }
+    ensures { λ r. ⌜ Found (forwardOver (countJudged (now (pattern .entry)) k) (length (now (pattern .entry))) (now (tail .entry) ++ now (chunk .entry))) base (now (list .entry)) (now (list .exit)) r ⌝ }
+{
+    let split = split_starts(pattern.len(), tail.len(), chunk.len());
+    let in_tail = split.in_tail;
+    let in_chunk = split.in_chunk;
+    if in_tail + in_chunk == 0 {
+        return Done { found: 0, looks: 0 };
+    }
+    let pattern_counts = parikh::counts(pattern);
+    let seam = seam_of(tail, chunk, pattern.len());
+    let bytes = seam.bytes;
+    let len = seam.len;
+    let over_tail = Stretch {
+        first: 0,
+        end: in_tail,
+        base,
+        at: 0,
+    };
+    let first = count_seam(pattern, pattern_counts, k, &bytes[..len], over_tail, list);
+    if in_chunk == 0 {
+        return Done {
+            found: first.at,
+            looks: first.looks,
+        };
+    }
+    let over_chunk = Stretch {
+        first: 0,
+        end: in_chunk,
+        base: base + tail.len(),
+        at: first.at,
+    };
+    let second = forward::count_windows(
+        pattern,
+        pattern_counts,
+        k,
+        chunk,
+        first.sliding,
+        over_chunk,
+        list,
+    );
+    Done {
+        found: second.at,
+        looks: first.looks + second.looks,
+    }
 }
