@@ -78,11 +78,11 @@ pub fn count_windows(
     let mut looks = 0;
     for s in stretch.first..end {
         let taken = text[s + m - 1] as usize;
-        looks += 1;
+        looks += 1; // the window's last byte
         surplus += (counts[taken] >= pattern_counts[taken]) as usize;
         counts[taken] += 1;
         if surplus <= k {
-            list[at] = (base + s) as u32;
+            list[at] = (base + s) as u32; // the position in the whole text
             at += 1;
         }
         let given_up = text[s] as usize;

@@ -75,7 +75,7 @@ add-surplus c =
     omega (
       arith,
       surplus-room (loop .inv .state) (bytes-take (loop .i) T (bytes c))
-      (leb (getD (c .before .before .before .args .t2) taken 0) (getD (loop .counts) taken 0)),
+          (leb (getD (c .before .before .before .args .t2) taken 0) (getD (loop .counts) taken 0)),
       length-take (loop .i) T,
     )
 
@@ -142,4 +142,3 @@ count-start-spec =
     loop-less
     loop-again
     returns)
-

@@ -48,7 +48,7 @@ module _ {P wanted : List ℕ} {k : ℕ} {T : List ℕ} {stretch : Stretch} {bef
     (here : Counts P wanted k T stretch before after counts surplus at looks s) where
   abbrev taken : ℕ
   taken = getD T (s + length P - 1) 0
-  
+
   abbrev first : ℕ
   first = getD T s 0
 
@@ -59,7 +59,7 @@ module _ {P wanted : List ℕ} {k : ℕ} {T : List ℕ} {stretch : Stretch} {bef
   from-first = rw (by-first (here .turn)) at over-window
 
   surplus-fits : surplus + spent wanted counts taken < 2 ^ 64
-  surplus-fits = 
+  surplus-fits =
       omega (
         arith,
         surplus-room (here .state) (lead-bytes (here .turn)) (leb (getD wanted taken 0) (getD counts taken 0)),
@@ -289,4 +289,3 @@ count-windows-spec =
     loop-again
     same-length
     returns)
-

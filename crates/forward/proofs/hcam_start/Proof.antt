@@ -28,4 +28,3 @@ returns c =
 
 pub hcam-start-spec : {M : Type 1} → statement M
 hcam-start-spec = tie.close (tie.spec sub-last slice-aggregate-taken hcam-sum-requires returns)
-

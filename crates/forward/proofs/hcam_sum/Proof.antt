@@ -49,8 +49,7 @@ loop-less c = omega arith
 loop-again : tie.Need-loop-again Inv-loop μ-loop
 loop-again c =
     let loop = c .before .before .before .loop in
-    let bytes = c .before .before .before .before .before .args .bytes .now in
-    (
+    let bytes = c .before .before .before .before .before .args .bytes .now in (
       omega arith,
       λ P e.
           summing-more P e (take (loop .i) bytes) (byte (c .before)) (loop .inv .1 P e) (c .wrapping-add-u64 .ensures)
@@ -79,4 +78,3 @@ hcam-sum-spec =
     loop-less
     loop-again
     returns)
-

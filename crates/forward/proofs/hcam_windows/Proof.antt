@@ -298,4 +298,3 @@ hcam-windows-spec =
     loop-again
     same-length
     returns)
-

@@ -81,4 +81,3 @@ verified-spec =
     loop-less
     loop-again
     returns-2)
-
