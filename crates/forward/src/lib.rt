@@ -167,6 +167,7 @@ pub fn hcam_windows(
 {
     let m = pattern.len();
     let values = table.values;
+    let exact = table.exact;
     let base = stretch.base;
     let end = stretch.end;
     let mut sum = sum;
@@ -177,7 +178,7 @@ pub fn hcam_windows(
         looks += 1;
         sum = std::num::wrapping_add_u64(sum, values[taken]);
         let mut listed = sum == target;
-        if listed && !table.exact {
+        if listed && !exact {
             let window = &text[s..s + m];
             looks += window.len();
             listed = verified(pattern_counts, window);
