@@ -1,5 +1,5 @@
 -- How the counters and the surplus of a sliding window follow the bytes that are taken and given up.
-use mathlib.Core.Path.{_≡_, refl, sym, ap, ap₂, _∙_}
+use mathlib.Core.Path.{_≡_, refl, sym, ap, _∙_}
 use mathlib.Core.Bool.{Bool, true, false, cond}
 use mathlib.Core.List.{List, [], _∷_, _++_, append-nil}
 use Prim.Native.Nat.{ℕ, _+_, _-_, _≤_, _<_}
@@ -7,16 +7,15 @@ use native.Mathlib.Nat.{add-comm, le-of-eq}
 use native.Mathlib.Omega.{arith}
 use lib.Dec.{leb, eqb}
 use lib.ListN.{length, getD, set, replicate}
-use lib.Seq.{getD-set-same}
 use mir.Val.{boolByte}
 use borrow.Author.Tests.{eq-eqb, eqb-true, le-leb, lt-leb}
-use Rattle.jumbled.specs.Match.{Bytes, bit, cc, sum, excess, matches}
+use Rattle.jumbled.specs.Match.{Bytes, bit, cc, excess, matches}
 use Rattle.jumbled.specs.Steps.{countJudged}
 use Rattle.jumbled.proofs.Sums.{sum-ext, sum-zeros}
 use Rattle.jumbled.proofs.Counts.{cc-cons, cc-append, cc-length, excess-nil, excess-cons, excess-append, excess-at}
 use Rattle.parikh.specs.Table.{parikh}
 use Rattle.parikh.proofs.Tables.{tabulate-ext, tabulate-set}
-use Rattle.parikh.proofs.Parikh.{length-parikh, getD-parikh, parikh-nil, parikh-snoc}
+use Rattle.parikh.proofs.Parikh.{getD-parikh, parikh-nil, parikh-snoc}
 use Rattle.forward.specs.Counting.{Counting}
 
 -- the order of bytes does not matter to their counts, nor to the excess

@@ -1,13 +1,13 @@
 -- How a forward loop goes from window start to window start, whatever its judgement of a window is.
-use mathlib.Core.Path.{_≡_, refl, sym, ap, _∙_}
+use mathlib.Core.Path.{_≡_, refl, ap, _∙_}
 use mathlib.Core.Bool.{Bool, true, false}
 use mathlib.Core.List.{List, [], _∷_, _++_, append-nil}
-use Prim.Native.Nat.{ℕ, suc, _+_, _-_, _*_, _^_, _≤_, _<_}
+use Prim.Native.Nat.{ℕ, _+_, _-_, _*_, _^_, _≤_, _<_}
 use native.Mathlib.Nat.{sub-self}
 use native.Mathlib.Omega.{arith}
 use lib.ListN.{length, getD, drop, set, length-append, length-take, length-drop}
 use Rattle.jumbled.specs.Match.{Bytes, window}
-use Rattle.jumbled.specs.Scan.{Result, nothing, Judged, forward}
+use Rattle.jumbled.specs.Scan.{Result, Judged, forward}
 use Rattle.jumbled.proofs.Cuts.{_then_, forward-cut}
 use Rattle.jumbled.proofs.Counts.{bytes-take, bytes-drop}
 use Rattle.listing.specs.declared.Stretch.{Stretch}
@@ -81,6 +81,9 @@ module _ {judged : List ℕ → Judged} {m : ℕ} {T : List ℕ} {stretch : Stre
 
   pub first-byte : getD T s 0 < 256
   first-byte = turn .bytes .below s
+
+  pub both-bytes : (getD T (s + m - 1) 0 < 256) × (getD T s 0 < 256)
+  both-bytes = (last-byte, first-byte)
 
   pub by-last : window m T s ≡ lead m T s ++ (getD T (s + m - 1) 0 ∷ [])
   by-last = window-last m T s (turn .fitting .some) whole

@@ -78,11 +78,11 @@ pub fn count_windows(
     let mut looks = 0;
     for s in stretch.first..end {
         let taken = text[s + m - 1] as usize;
-        looks += 1;
+        looks += 1; // the window's last byte
         surplus += (counts[taken] >= pattern_counts[taken]) as usize;
         counts[taken] += 1;
         if surplus <= k {
-            list[at] = (base + s) as u32;
+            list[at] = (base + s) as u32; // the position in the whole text
             at += 1;
         }
         let given_up = text[s] as usize;
@@ -167,6 +167,7 @@ pub fn hcam_windows(
 {
     let m = pattern.len();
     let values = table.values;
+    let exact = table.exact;
     let base = stretch.base;
     let end = stretch.end;
     let mut sum = sum;
@@ -177,7 +178,7 @@ pub fn hcam_windows(
         looks += 1;
         sum = std::num::wrapping_add_u64(sum, values[taken]);
         let mut listed = sum == target;
-        if listed && !table.exact {
+        if listed && !exact {
             let window = &text[s..s + m];
             looks += window.len();
             listed = verified(pattern_counts, window);

@@ -1,15 +1,12 @@
 -- `forward::count_start` meets its contract. The loop's invariant: the state is that of the bytes passed, each inspected once.
-use mathlib.Core.Path.{_≡_, refl, sym, ap, _∙_}
-use mathlib.Core.Bool.{Bool}
+use mathlib.Core.Path.{_≡_, refl, _∙_}
 use mathlib.Core.List.{List}
-use Prim.Native.Nat.{ℕ, _≤_, _<_, _-_, _+_}
+use Prim.Native.Nat.{ℕ, _≤_, _<_, _-_}
 use native.Mathlib.Omega.{arith}
-use mir.Val.{boolByte}
 use lib.Dec.{leb}
-use lib.ListN.{length, getD, take, set, length-take}
+use lib.ListN.{length, getD, take, length-take}
 use Rattle.jumbled.specs.Match.{Bytes}
 use Rattle.jumbled.proofs.Counts.{bytes-take}
-use Rattle.parikh.specs.Table.{parikh}
 use Rattle.forward.specs.Counting.{Counting}
 use Rattle.forward.proofs.Windows.{take-next}
 use Rattle.forward.proofs.Counting.{counting-none, counting-more, counter-room, surplus-room}

@@ -1,27 +1,23 @@
 -- `forward::count_windows` meets its contract. The loop's invariant: what the windows before s yield is listed, and the state is that of the
 -- window at s but its last byte.
-use mathlib.Core.Path.{_≡_, refl, sym, ap, _∙_}
-use mathlib.Core.Bool.{Bool, true, false}
-use mathlib.Core.List.{List, [], _∷_, _++_}
+use mathlib.Core.Path.{_≡_, refl}
+use mathlib.Core.List.{List, _∷_}
 use mathlib.Core.Logic.{⊎-elim}
 use Prim.Native.Nat.{ℕ, _≤_, _<_, _-_, _+_, _^_}
 use native.Mathlib.Omega.{arith}
 use mir.Val.{boolByte}
 use lib.Dec.{leb}
-use lib.ListN.{length, getD, take, drop, set, length-take}
-use Rattle.jumbled.specs.Match.{Bytes, window}
+use lib.ListN.{length, getD, set}
+use Rattle.jumbled.specs.Match.{window}
 use Rattle.jumbled.specs.Steps.{countJudged}
-use Rattle.jumbled.proofs.Counts.{bytes-take, bytes-drop}
 use Rattle.parikh.specs.Table.{parikh}
 use Rattle.listing.specs.declared.Stretch.{Stretch}
 use Rattle.forward.specs.Windows.{lead}
 use Rattle.forward.specs.Counting.{Counting}
-use Rattle.forward.proofs.Progress.{Progress, progress-none, kept-length, Turn, whole, last-byte, first-byte, by-last, by-first, lead-bytes, lead-short, has-room, has-place, has-number, has-looks, turn-listed, turn-skipped}
+use Rattle.forward.proofs.Progress.{Progress, progress-none, kept-length, Turn, whole, last-byte, first-byte, both-bytes, by-last, by-first, lead-bytes, lead-short, has-room, has-place, has-number, has-looks, turn-listed, turn-skipped}
 use Rattle.forward.proofs.Counting.{counting-more, counter-room, surplus-room, counting-less, counter-there, surplus-there, judged-right, judged-wrong, judged-unverified}
 use Rattle.forward.proofs.count_windows.Statement.{statement}
 use Rattle.forward.proofs.count_windows.Tie as tie
-use Rattle.forward.proofs.count_windows.Reads as reads
-use Rattle.forward.proofs.count_windows.Lts as lts
 
 -- What holds before the window at s
 record Running (P : List ℕ) (k : ℕ) (T : List ℕ) (stretch : Stretch) (before after counts : List ℕ) (surplus at looks s : ℕ) : Type 0 where
@@ -131,22 +127,22 @@ shared-slice-read-taken : tie.Need-shared-slice-read-taken Inv-loop μ-loop
 shared-slice-read-taken c = omega (arith, whole (counts-here c .turn))
 
 cast-taken : tie.Need-cast-taken Inv-loop μ-loop
-cast-taken c = omega (arith, last-byte (counts-here c .turn))
+cast-taken c = omega (arith, both-bytes (counts-here c .turn))
 
 add-looks : tie.Need-add-looks Inv-loop μ-loop
 add-looks c = omega (arith, has-looks (counts-here c .turn))
 
 mul-surplus : tie.Need-mul-surplus Inv-loop μ-loop
-mul-surplus c = omega (arith, last-byte (counts-here c .turn))
+mul-surplus c = omega (arith, both-bytes (counts-here c .turn))
 
 array-read-surplus : tie.Need-array-read-surplus Inv-loop μ-loop
-array-read-surplus c = omega (arith, last-byte (counts-here c .turn))
+array-read-surplus c = omega (arith, both-bytes (counts-here c .turn))
 
 mul-surplus-2 : tie.Need-mul-surplus-2 Inv-loop μ-loop
-mul-surplus-2 c = omega (arith, last-byte (counts-here c .turn))
+mul-surplus-2 c = omega (arith, both-bytes (counts-here c .turn))
 
 array-read-surplus-2 : tie.Need-array-read-surplus-2 Inv-loop μ-loop
-array-read-surplus-2 c = omega (arith, last-byte (counts-here c .turn))
+array-read-surplus-2 c = omega (arith, both-bytes (counts-here c .turn))
 
 cast-surplus : tie.Need-cast-surplus Inv-loop μ-loop
 cast-surplus c = tt
@@ -155,16 +151,16 @@ add-surplus : tie.Need-add-surplus Inv-loop μ-loop
 add-surplus c = record { fits = surplus-fits (counts-here c) }
 
 mul-counts : tie.Need-mul-counts Inv-loop μ-loop
-mul-counts c = omega (arith, last-byte (counts-here c .turn))
+mul-counts c = omega (arith, both-bytes (counts-here c .turn))
 
 array-read-counts : tie.Need-array-read-counts Inv-loop μ-loop
-array-read-counts c = omega (arith, last-byte (counts-here c .turn))
+array-read-counts c = omega (arith, both-bytes (counts-here c .turn))
 
 add-counts : tie.Need-add-counts Inv-loop μ-loop
 add-counts c = record { fits = counter-fits (counts-here c) }
 
 array-write-counts : tie.Need-array-write-counts Inv-loop μ-loop
-array-write-counts c = omega (arith, last-byte (counts-here c .turn))
+array-write-counts c = omega (arith, both-bytes (counts-here c .turn))
 
 add-list : tie.Need-add-list Inv-loop μ-loop
 add-list c = omega (arith, has-number (counts-here (c .before) .turn))
@@ -185,31 +181,31 @@ shared-slice-read-given-up : tie.Need-shared-slice-read-given-up Inv-loop μ-loo
 shared-slice-read-given-up c = omega (arith, whole (counts-here (c .before .before) .turn))
 
 cast-given-up : tie.Need-cast-given-up Inv-loop μ-loop
-cast-given-up c = omega (arith, first-byte (counts-here (c .before .before) .turn))
+cast-given-up c = omega (arith, both-bytes (counts-here (c .before .before) .turn))
 
 mul-counts-2 : tie.Need-mul-counts-2 Inv-loop μ-loop
-mul-counts-2 c = omega (arith, first-byte (counts-here (c .before .before) .turn))
+mul-counts-2 c = omega (arith, both-bytes (counts-here (c .before .before) .turn))
 
 array-read-counts-2 : tie.Need-array-read-counts-2 Inv-loop μ-loop
-array-read-counts-2 c = omega (arith, first-byte (counts-here (c .before .before) .turn))
+array-read-counts-2 c = omega (arith, both-bytes (counts-here (c .before .before) .turn))
 
 sub-counts : tie.Need-sub-counts Inv-loop μ-loop
 sub-counts c = counter-there (from-first (counts-here (c .before .before))) (first-byte (counts-here (c .before .before) .turn))
 
 array-write-counts-2 : tie.Need-array-write-counts-2 Inv-loop μ-loop
-array-write-counts-2 c = omega (arith, first-byte (counts-here (c .before .before) .turn))
+array-write-counts-2 c = omega (arith, both-bytes (counts-here (c .before .before) .turn))
 
 mul-surplus-3 : tie.Need-mul-surplus-3 Inv-loop μ-loop
-mul-surplus-3 c = omega (arith, first-byte (counts-here (c .before .before) .turn))
+mul-surplus-3 c = omega (arith, both-bytes (counts-here (c .before .before) .turn))
 
 array-read-surplus-3 : tie.Need-array-read-surplus-3 Inv-loop μ-loop
-array-read-surplus-3 c = omega (arith, first-byte (counts-here (c .before .before) .turn))
+array-read-surplus-3 c = omega (arith, both-bytes (counts-here (c .before .before) .turn))
 
 mul-surplus-4 : tie.Need-mul-surplus-4 Inv-loop μ-loop
-mul-surplus-4 c = omega (arith, first-byte (counts-here (c .before .before) .turn))
+mul-surplus-4 c = omega (arith, both-bytes (counts-here (c .before .before) .turn))
 
 array-read-surplus-4 : tie.Need-array-read-surplus-4 Inv-loop μ-loop
-array-read-surplus-4 c = omega (arith, first-byte (counts-here (c .before .before) .turn))
+array-read-surplus-4 c = omega (arith, both-bytes (counts-here (c .before .before) .turn))
 
 cast-surplus-2 : tie.Need-cast-surplus-2 Inv-loop μ-loop
 cast-surplus-2 c = tt

@@ -1,32 +1,27 @@
 -- `forward::hcam_windows` meets its contract. The loop's invariant: what the windows before s yield is listed, and the sum is that of the
 -- window at s but its last byte.
-use mathlib.Core.Path.{_≡_, refl, sym, ap, ap₂, _∙_}
+use mathlib.Core.Path.{_≡_, sym, ap, _∙_}
 use mathlib.Core.Bool.{Bool, true, false, not}
-use mathlib.Core.List.{List, [], _∷_, _++_}
+use mathlib.Core.List.{List}
 use mathlib.Core.Logic.{⊎-elim}
 use Prim.Native.Nat.{ℕ, _≤_, _<_, _-_, _+_, _%_, _^_}
 use native.Mathlib.Omega.{arith}
 use lib.Dec.{eqb}
-use lib.ListN.{length, getD}
+use lib.ListN.{length, getD, take, drop}
 use borrow.Author.Tests.{eqb-true, eqb-false, not-true, not-false}
 use Rattle.jumbled.specs.Match.{matches, window}
-use Rattle.jumbled.specs.Heap.{heapSum, heapValue}
+use Rattle.jumbled.specs.Heap.{heapSum}
 use Rattle.jumbled.specs.Steps.{hcamJudged}
-use Rattle.parikh.specs.Table.{parikh, tabulate}
+use Rattle.parikh.specs.Table.{parikh}
 use Rattle.heap.specs.declared.HeapTable.{HeapTable}
 use Rattle.heap.specs.Table.{HeapTabled}
 use Rattle.listing.specs.declared.Stretch.{Stretch}
 use Rattle.forward.specs.Windows.{lead}
 use Rattle.forward.proofs.Windows.{window-part}
-use Rattle.forward.proofs.Progress.{Progress, progress-none, kept-length, Turn, whole, last-byte, first-byte, by-last, by-first, window-whole, has-room, has-place, has-number, has-looks, turn-listed, turn-skipped}
+use Rattle.forward.proofs.Progress.{Progress, progress-none, kept-length, Turn, whole, last-byte, first-byte, both-bytes, by-last, by-first, window-whole, has-room, has-place, has-number, has-looks, turn-listed, turn-skipped}
 use Rattle.forward.proofs.Hashing.{summing-more, summing-less, judged-other, judged-exact, judged-verified}
 use Rattle.forward.proofs.hcam_windows.Statement.{statement}
 use Rattle.forward.proofs.hcam_windows.Tie as tie
-use Rattle.forward.proofs.hcam_windows.Reads as reads
-use Rattle.forward.proofs.hcam_windows.Lts as lts
-use Rattle.forward.proofs.verified.Reads as verified-reads
-use Rattle.std.proofs.num.wrapping_add_u64.Reads as wrapping-add-u64-reads
-use Rattle.std.proofs.num.wrapping_sub_u64.Reads as wrapping-sub-u64-reads
 
 -- What holds before the window at s
 record Running (P : List ℕ) (T : List ℕ) (stretch : Stretch) (before after : List ℕ) (sum at looks s : ℕ) : Type 0 where
@@ -34,11 +29,11 @@ record Running (P : List ℕ) (T : List ℕ) (stretch : Stretch) (before after :
   state : sum ≡ heapSum P (lead (length P) T s)
 
 abbrev Inv-loop : tie.InvT-loop
-Inv-loop pattern pattern-counts table target text sum list₀ m values base end sum₀ at₀ looks₀ s₀ list sum' at looks s =
+Inv-loop pattern pattern-counts target text sum list₀ m values exact base end sum₀ at₀ looks₀ s₀ list sum' at looks s =
     Running pattern text (record { first = s₀; end = end; base = base; at = at₀ }) list₀ list sum' at looks s
 
 abbrev μ-loop : tie.MeasureT-loop
-μ-loop pattern pattern-counts table target text sum list₀ m values base end sum₀ at₀ looks₀ s₀ list sum' at looks s = end - s
+μ-loop pattern pattern-counts target text sum list₀ m values exact base end sum₀ at₀ looks₀ s₀ list sum' at looks s = end - s
 
 -- and in a turn of the loop
 record Sums (P wanted : List ℕ) (table : HeapTable) (target : ℕ) (T : List ℕ) (stretch : Stretch) (before after : List ℕ) (sum at looks s : ℕ) : Type 0 where
@@ -71,22 +66,30 @@ module _ {P wanted : List ℕ} {table : HeapTable} {target : ℕ} {T : List ℕ}
   candidate : eqb summed target ≡ true → heapSum P (window (length P) T s) ≡ heapSum P P
   candidate e = sym over-window ∙ eqb-true summed target e ∙ here .own-sum
 
-  found-verified : eqb summed target ≡ true → not (table .exact) ≡ true → (answer : Bool) → answer ≡ matches P 0 (window (length P) T s)
-      → Verdict P (window (length P) T s) looks answer (looks + 1 + length (window (length P) T s))
-  found-verified e x answer q =
-      let judged = judged-verified P (window (length P) T s) (candidate e) (sym (here .tabled .exact) ∙ not-true (table .exact) x) in
-      rw (window-whole (here .turn))
-      (record { right = rw judged q; counted = rw judged (omega arith); bounded = omega (arith, here .turn .fitting .short) })
+  module _ {listed : Bool} {looked : ℕ} where
+    found-verified : eqb summed target ≡ true → not (table .exact) ≡ true → listed ≡ matches P 0 (take (s + length P - s) (drop s T))
+        → looked ≡ looks + 1 + length (take (s + length P - s) (drop s T)) → Verdict P (window (length P) T s) looks listed looked
+    found-verified e x answer taken =
+        let part = window-part (length P) T s in
+        let judged = judged-verified P (window (length P) T s) (candidate e) (sym (here .tabled .exact) ∙ not-true (table .exact) x) in
+        let all : looked ≡ looks + 1 + length P =
+        taken ∙ ap (λ (n : ℕ). looks + 1 + n) (ap length part ∙ window-whole (here .turn)) in
+        record {
+          right = rw (judged, ← part) answer;
+          counted = rw judged (omega arith);
+          bounded = omega (arith, here .turn .fitting .short);
+        }
 
-  found-exact : eqb summed target ≡ true → not (table .exact) ≡ false → Verdict P (window (length P) T s) looks (eqb summed target) (looks + 1)
-  found-exact e x =
-      let judged = judged-exact P (window (length P) T s) (candidate e) (sym (here .tabled .exact) ∙ not-false (table .exact) x) in
-      record { right = rw judged e; counted = rw judged refl; bounded = omega arith }
+    found-exact : eqb summed target ≡ true → not (table .exact) ≡ false → listed ≡ eqb summed target → looked ≡ looks + 1
+        → Verdict P (window (length P) T s) looks listed looked
+    found-exact e x answer taken =
+        let judged = judged-exact P (window (length P) T s) (candidate e) (sym (here .tabled .exact) ∙ not-false (table .exact) x) in
+        record { right = rw judged (answer ∙ e); counted = rw judged taken; bounded = omega arith }
 
-  found-none : eqb summed target ≡ false → Verdict P (window (length P) T s) looks (eqb summed target) (looks + 1)
-  found-none e =
-      let judged = judged-other P (window (length P) T s) (λ h. eqb-false summed target e (over-window ∙ h ∙ sym (here .own-sum))) in
-      record { right = rw judged e; counted = rw judged refl; bounded = omega arith }
+    found-none : eqb summed target ≡ false → listed ≡ eqb summed target → looked ≡ looks + 1 → Verdict P (window (length P) T s) looks listed looked
+    found-none e answer taken =
+        let judged = judged-other P (window (length P) T s) (λ h. eqb-false summed target e (over-window ∙ h ∙ sym (here .own-sum))) in
+        record { right = rw judged (answer ∙ e); counted = rw judged taken; bounded = omega arith }
 
 sums-here : (c : tie.After-shared-slice-known3 Inv-loop μ-loop)
     → Sums (c .before .before .before .before .before .before .before .args .pattern .now)
@@ -123,14 +126,11 @@ found c =
     let start = c .before .before .before .before .before .before .before .before .before in
     let here = sums-here (c .before .before) in
     let added = c .before .wrapping-add-u64 .ensures in
-    let part = window-part (length (start .args .pattern .now)) (start .args .text .now) (c .before .before .before .before .loop .s) in
     ⊎-elim
     (λ w.
-    rw (w .5, w .6, part)
-    (found-verified here added (w .0 .taken) (w .2 .taken) (w .4 .result) (rw part at (w .4 .ensures (start .args .pattern .now) (here .known)))))
+    found-verified here added (w .0 .taken) (w .1 .taken) (w .5 ∙ w .3 .ensures (start .args .pattern .now) (here .known)) (w .4))
     (λ w.
-    rw (w .1, w .2)
-    (⊎-elim (λ v. found-exact here added (v .0 .taken) (v .2 .left)) (λ v. found-none here added (v .left)) (w .0 .came)))
+    ⊎-elim (λ v. found-exact here added (v .0 .taken) (v .1 .left) (w .2) (w .1)) (λ v. found-none here added (v .left) (w .2) (w .1)) (w .0 .came))
     (c .if1 .came)
 
 loop-holds : tie.Need-loop-holds Inv-loop μ-loop
@@ -155,22 +155,22 @@ shared-slice-read-taken : tie.Need-shared-slice-read-taken Inv-loop μ-loop
 shared-slice-read-taken c = omega (arith, whole (sums-here c .turn), sums-here c .turn .fitting .some)
 
 cast-taken : tie.Need-cast-taken Inv-loop μ-loop
-cast-taken c = omega (arith, last-byte (sums-here c .turn))
+cast-taken c = omega (arith, both-bytes (sums-here c .turn))
 
 add-looks : tie.Need-add-looks Inv-loop μ-loop
 add-looks c = omega (arith, has-looks (sums-here c .turn))
 
 mul-wrapping-add-u64 : tie.Need-mul-wrapping-add-u64 Inv-loop μ-loop
-mul-wrapping-add-u64 c = omega (arith, last-byte (sums-here c .turn))
+mul-wrapping-add-u64 c = omega (arith, both-bytes (sums-here c .turn))
 
 array-read-wrapping-add-u64 : tie.Need-array-read-wrapping-add-u64 Inv-loop μ-loop
-array-read-wrapping-add-u64 c = omega (arith, last-byte (sums-here c .turn))
+array-read-wrapping-add-u64 c = omega (arith, both-bytes (sums-here c .turn))
 
 wrapping-add-u64-requires : tie.Need-wrapping-add-u64-requires Inv-loop μ-loop
 wrapping-add-u64-requires c κs = tt
 
 add-window : tie.Need-add-window Inv-loop μ-loop
-add-window c = omega (arith, whole (sums-here (c .before .before .before .before) .turn))
+add-window c = omega (arith, whole (sums-here (c .before .before .before) .turn))
 
 sub-window : tie.Need-sub-window Inv-loop μ-loop
 sub-window c = omega arith
@@ -179,13 +179,13 @@ part-window-start : tie.Need-part-window-start Inv-loop μ-loop
 part-window-start c = omega arith
 
 part-window-end : tie.Need-part-window-end Inv-loop μ-loop
-part-window-end c = omega (arith, whole (sums-here (c .before .before .before .before) .turn))
+part-window-end c = omega (arith, whole (sums-here (c .before .before .before) .turn))
 
 add-looks-2 : tie.Need-add-looks-2 Inv-loop μ-loop
 add-looks-2 c =
-    let start = c .before .before .before .before .before .before .before .before .before .before .before .before in
-    let loop = c .before .before .before .before .before .before .before .loop in
-    let turn = sums-here (c .before .before .before .before .before) .turn in
+    let start = c .before .before .before .before .before .before .before .before .before .before .before in
+    let loop = c .before .before .before .before .before .before .loop in
+    let turn = sums-here (c .before .before .before .before) .turn in
     omega (
       arith,
       has-looks turn,
@@ -216,13 +216,13 @@ shared-slice-read-given-up : tie.Need-shared-slice-read-given-up Inv-loop μ-loo
 shared-slice-read-given-up c = omega (arith, whole (sums-here (c .before .before .before .before) .turn), sums-here (c .before .before .before .before) .turn .fitting .some)
 
 cast-given-up : tie.Need-cast-given-up Inv-loop μ-loop
-cast-given-up c = omega (arith, first-byte (sums-here (c .before .before .before .before) .turn))
+cast-given-up c = omega (arith, both-bytes (sums-here (c .before .before .before .before) .turn))
 
 mul-wrapping-sub-u64 : tie.Need-mul-wrapping-sub-u64 Inv-loop μ-loop
-mul-wrapping-sub-u64 c = omega (arith, first-byte (sums-here (c .before .before .before .before) .turn))
+mul-wrapping-sub-u64 c = omega (arith, both-bytes (sums-here (c .before .before .before .before) .turn))
 
 array-read-wrapping-sub-u64 : tie.Need-array-read-wrapping-sub-u64 Inv-loop μ-loop
-array-read-wrapping-sub-u64 c = omega (arith, first-byte (sums-here (c .before .before .before .before) .turn))
+array-read-wrapping-sub-u64 c = omega (arith, both-bytes (sums-here (c .before .before .before .before) .turn))
 
 wrapping-sub-u64-requires : tie.Need-wrapping-sub-u64-requires Inv-loop μ-loop
 wrapping-sub-u64-requires c κs = tt
