@@ -1,0 +1,4 @@
+pub mod Windows
+pub mod Reading
+pub mod Scanning
+pub mod Methods
