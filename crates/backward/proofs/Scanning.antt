@@ -113,6 +113,18 @@ module _ {P : List ℕ} {M : Method} {tables : Tables} {T : List ℕ} {stretch :
         let d : p - s₀ ≡ suc (p - 1 - s₀) = omega (arith, inner .same) in
         rw d (one-byte (window (length P) T s₀) (p - 1 - s₀) (omega (arith, inner .same, inner .upto, window-whole (length P) T s₀ window-upto)))
 
+    -- as two bytes a step, the two before p are next, or the leftmost alone
+    pub pair-group : s < p - 1 → Group pairs (window (length P) T s₀) (p - 1 - 1 - s₀) (p - s₀)
+    pair-group h =
+        let d : p - s₀ ≡ suc (suc (p - 1 - 1 - s₀)) = omega (arith, inner .same) in
+        rw d (two-bytes (window (length P) T s₀) (p - 1 - 1 - s₀) (omega (arith, inner .same, inner .upto, window-whole (length P) T s₀ window-upto)))
+
+    pub alone-group : s < p → p - 1 ≤ s → Group pairs (window (length P) T s₀) (p - 1 - s₀) (p - s₀)
+    alone-group h last =
+        let none : p - 1 - s₀ ≡ 0 = omega (arith, inner .same) in
+        let one : p - s₀ ≡ 1 = omega (arith, inner .same) in
+        rw (none, one) (leftmost (window (length P) T s₀) (omega (arith, inner .same, inner .upto, window-whole (length P) T s₀ window-upto)))
+
     module _ {low next-word next-looks : ℕ} (taken : Taken P M T s₀ p looks low next-word next-looks) where
       pub taken-word : next-word < 2 ^ 64
       taken-word = inner-word low next-word (omega (arith, taken .lower)) (taken .near) (taken .holds)
@@ -162,6 +174,10 @@ module _ {P : List ℕ} {M : Method} {tables : Tables} {T : List ℕ} {stretch :
     pub inner-looks : looks < 2 ^ 40
     inner-looks = omega (arith, inner .looked, inner .here, w .going .counted, w .given .fitting .numbered, w .given .fitting .short)
 
+    -- the byte before p is added
+    pub first-added : s < p → word + getD (tables .units) (getD T (p - 1) 0) 0 ≡ wordOf P (M .layout) (readFrom (length P) T s₀ (p - 1))
+    first-added h = byte-added word p (omega (arith, inner .same)) (inner .upto) (inner .reading .holds)
+
     -- one byte taken as a step
     pub single-taken : s < p → 1 ≤ M .most → Group (M .cut) (window (length P) T s₀) (p - 1 - s₀) (p - s₀)
         → Taken P M T s₀ p looks (p - 1) (word + getD (tables .units) (getD T (p - 1) 0) 0) (looks + 1)
@@ -171,7 +187,21 @@ module _ {P : List ℕ} {M : Method} {tables : Tables} {T : List ℕ} {stretch :
           lower = omega (arith, inner .same);
           near = omega (arith, inner .same);
           group = group;
-          holds = byte-added word p (omega (arith, inner .same)) (inner .upto) (inner .reading .holds);
+          holds = first-added h;
+          looked = omega (arith, inner .same);
+        }
+
+    -- two bytes
+    pub pair-taken : s < p - 1 → 2 ≤ M .most → Group (M .cut) (window (length P) T s₀) (p - 1 - 1 - s₀) (p - s₀)
+        → Taken P M T s₀ p looks (p - 1 - 1) (word + getD (tables .units) (getD T (p - 1) 0) 0 + getD (tables .units) (getD T (p - 1 - 1) 0) 0) (looks + 1 + 1)
+    pair-taken h some group =
+        record {
+          here = omega (arith, inner .same);
+          lower = omega (arith, inner .same);
+          near = omega (arith, inner .same);
+          group = group;
+          holds =
+              byte-added (word + getD (tables .units) (getD T (p - 1) 0) 0) (p - 1) (omega (arith, inner .same)) (omega (arith, inner .upto)) (first-added (omega arith));
           looked = omega (arith, inner .same);
         }
 
