@@ -2,3 +2,4 @@ pub mod Windows
 pub mod Reading
 pub mod Scanning
 pub mod Methods
+pub mod Errors

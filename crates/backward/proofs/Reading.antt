@@ -2,25 +2,23 @@
 use mathlib.Core.Path.{_≡_, refl, sym, ap, _∙_}
 use mathlib.Core.Bool.{Bool, true, false, cond}
 use mathlib.Core.List.{List, [], _∷_, _++_, reverse, reverse-append}
-use Prim.Native.Nat.{ℕ, zero, suc, _+_, _-_, _^_, _≤_, _<_}
+use Prim.Native.Nat.{ℕ, suc, _+_, _-_, _≤_, _<_}
 use native.Mathlib.Omega.{arith}
-use lib.Dec.{ltb}
-use lib.ListN.{length, getD, take, drop, length-take, length-drop, take-append-drop}
-use lib.Seq.{take-suc, drop-cons, drop-drop, take-all, drop-length, take-length, getD-take, getD-drop}
+use lib.ListN.{length, getD, take, drop, length-take, take-append-drop}
+use lib.Seq.{take-suc, drop-cons, drop-drop, drop-length, take-length}
 use borrow.Author.Tests.{ltb-false}
-use Rattle.jumbled.specs.Match.{Bytes, excess, window}
+use Rattle.jumbled.specs.Match.{Bytes, excess}
 use Rattle.jumbled.specs.Scan.{Scanned, completed, stopped, scan, singles, pairs}
-use Rattle.jumbled.specs.Fields.{Layout, fields, fieldOf, widthOf, valueOf, bits}
+use Rattle.jumbled.specs.Fields.{Layout, fields, fieldOf, widthOf, valueOf}
 use Rattle.jumbled.proofs.Counts.{bytes-take, bytes-drop, excess-nil, excess-append}
 use Rattle.jumbled.proofs.Scans.{Exact}
 use Rattle.jumbled.proofs.Overflow.{Roomy, no-carry}
-use Rattle.parikh.specs.Table.{tabulate}
 use Rattle.parikh.proofs.Tables.{getD-tabulate}
 use Rattle.packed.specs.Word.{Packed}
 use Rattle.packed.specs.declared.Tables.{Tables}
 use Rattle.packed.proofs.Packs.{Fitting}
 use Rattle.packed.proofs.Words.{unitOf}
-use Rattle.packed.proofs.Values.{wordOf, word-nil, word-cons, word-lt}
+use Rattle.packed.proofs.Values.{wordOf, word-nil, word-cons}
 
 -- ---- the steps
 

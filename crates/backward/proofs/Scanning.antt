@@ -1,17 +1,17 @@
 -- The leftward loop over a window of a text, by its position p: what holds where its test is reached, and the ways it goes on.
 use mathlib.Core.Path.{_≡_, refl, sym, ap, _∙_}
 use mathlib.Core.Bool.{true, false, not}
-use mathlib.Core.List.{List}
+use mathlib.Core.List.{List, [], _∷_}
 use Prim.Native.Nat.{ℕ, suc, _+_, _-_, _^_, _≤_, _<_}
 use native.Mathlib.Omega.{arith}
 use lib.Bits.{bitAnd}
 use lib.Dec.{eqb}
-use lib.ListN.{length, getD, set, drop, length-take, length-drop}
-use lib.Seq.{getD-take, getD-drop}
+use lib.ListN.{length, getD, set, drop, length-take, length-drop, drop-of-length-le}
+use lib.Seq.{drop-cons, getD-take, getD-drop}
 use borrow.Author.Tests.{eq-eqb, ne-eqb, not-true, not-false}
 use Rattle.jumbled.specs.Match.{Bytes, window}
-use Rattle.jumbled.specs.Scan.{Scanned, singles, pairs}
-use Rattle.jumbled.specs.Fields.{Layout, fields, widthOf, valueOf, bits, overflows}
+use Rattle.jumbled.specs.Scan.{singles, pairs}
+use Rattle.jumbled.specs.Fields.{fields, widthOf, valueOf, bits, overflows}
 use Rattle.jumbled.proofs.Counts.{bytes-take, bytes-drop}
 use Rattle.packed.specs.Word.{Packed}
 use Rattle.packed.specs.declared.Tables.{Tables}
@@ -76,6 +76,10 @@ module _ {P : List ℕ} {M : Method} {tables : Tables} {T : List ℕ} {stretch :
   pub window-place : at < length after
   window-place = going-place (w .going) (w .given .fitting) (w .inside)
 
+  -- nothing of it is read yet
+  pub read-none : readFrom (length P) T s₀ (s₀ + length P) ≡ []
+  read-none = drop-of-length-le (window (length P) T s₀) {i = s₀ + length P - s₀} (omega (arith, window-whole (length P) T s₀ window-upto))
+
   pub inner-first : Inner P M T s₀ looks₀ s₀ looks₀ (tables .start) (s₀ + length P)
   inner-first =
       let all : length (window (length P) T s₀) ≡ s₀ + length P - s₀ = window-whole (length P) T s₀ window-upto ∙ omega arith in
@@ -87,15 +91,29 @@ module _ {P : List ℕ} {M : Method} {tables : Tables} {T : List ℕ} {stretch :
         looked = refl;
       }
 
-  -- the unit of the byte before p is added
-  pub byte-added : (word p : ℕ) → s₀ < p → p ≤ s₀ + length P → word ≡ wordOf P (M .layout) (readFrom (length P) T s₀ p)
-      → word + getD (tables .units) (getD T (p - 1) 0) 0 ≡ wordOf P (M .layout) (readFrom (length P) T s₀ (p - 1))
-  byte-added word p h upto e =
-      let d : p - s₀ ≡ suc (p - 1 - s₀) = omega arith in
-      let place : s₀ + (p - 1 - s₀) ≡ p - 1 = omega arith in
-      rw (← (window-at (length P) T s₀ (p - 1 - s₀) (omega arith) ∙ ap (λ (i : ℕ). getD T i 0) place))
-      (unit-added P (M .layout) (w .given .packed) (window (length P) T s₀) (window-bytes (length P) T s₀ (w .given .text)) (p - 1 - s₀) word
-      (omega (arith, window-whole (length P) T s₀ window-upto)) (rw d at e))
+  -- the byte before p
+  module _ (p : ℕ) (more : s₀ < p) (upto : p ≤ s₀ + length P) where
+    left-more : p - s₀ ≡ suc (p - 1 - s₀)
+    left-more = omega arith
+
+    in-window : p - 1 - s₀ < length (window (length P) T s₀)
+    in-window = omega (arith, window-whole (length P) T s₀ window-upto)
+
+    byte-is : getD (window (length P) T s₀) (p - 1 - s₀) 0 ≡ getD T (p - 1) 0
+    byte-is =
+        let place : s₀ + (p - 1 - s₀) ≡ p - 1 = omega arith in
+        window-at (length P) T s₀ (p - 1 - s₀) (omega arith) ∙ ap (λ (i : ℕ). getD T i 0) place
+
+    pub read-more : readFrom (length P) T s₀ (p - 1) ≡ getD T (p - 1) 0 ∷ readFrom (length P) T s₀ p
+    read-more = rw (left-more, ← byte-is) (drop-cons (window (length P) T s₀) (p - 1 - s₀) 0 in-window)
+
+    -- its unit is added
+    pub byte-added : (word : ℕ) → word ≡ wordOf P (M .layout) (readFrom (length P) T s₀ p)
+        → word + getD (tables .units) (getD T (p - 1) 0) 0 ≡ wordOf P (M .layout) (readFrom (length P) T s₀ (p - 1))
+    byte-added word e =
+        rw (← byte-is)
+        (unit-added P (M .layout) (w .given .packed) (window (length P) T s₀) (window-bytes (length P) T s₀ (w .given .text)) (p - 1 - s₀) word in-window
+        (rw left-more at e))
 
   module _ {s looks word p : ℕ} (inner : Inner P M T s₀ looks₀ s looks word p) where
     -- while a step's bytes are added no field carries
@@ -176,7 +194,7 @@ module _ {P : List ℕ} {M : Method} {tables : Tables} {T : List ℕ} {stretch :
 
     -- the byte before p is added
     pub first-added : s < p → word + getD (tables .units) (getD T (p - 1) 0) 0 ≡ wordOf P (M .layout) (readFrom (length P) T s₀ (p - 1))
-    first-added h = byte-added word p (omega (arith, inner .same)) (inner .upto) (inner .reading .holds)
+    first-added h = byte-added p (omega (arith, inner .same)) (inner .upto) word (inner .reading .holds)
 
     -- one byte taken as a step
     pub single-taken : s < p → 1 ≤ M .most → Group (M .cut) (window (length P) T s₀) (p - 1 - s₀) (p - s₀)
@@ -201,7 +219,7 @@ module _ {P : List ℕ} {M : Method} {tables : Tables} {T : List ℕ} {stretch :
           near = omega (arith, inner .same);
           group = group;
           holds =
-              byte-added (word + getD (tables .units) (getD T (p - 1) 0) 0) (p - 1) (omega (arith, inner .same)) (omega (arith, inner .upto)) (first-added (omega arith));
+              byte-added (p - 1) (omega (arith, inner .same)) (omega (arith, inner .upto)) (word + getD (tables .units) (getD T (p - 1) 0) 0) (first-added (omega arith));
           looked = omega (arith, inner .same);
         }
 

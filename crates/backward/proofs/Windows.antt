@@ -1,17 +1,16 @@
 -- The loop over window starts, whatever scans a window: what holds where a window is begun, and how a scanned window takes it on.
-use mathlib.Core.Path.{_≡_, refl, sym, ap, ap₂, _∙_}
-use mathlib.Core.Bool.{Bool, true, false, cond}
-use mathlib.Core.List.{List, [], _∷_, _++_}
-use Prim.Native.Nat.{ℕ, zero, suc, _+_, _-_, _*_, _≤_, _<_}
+use mathlib.Core.Path.{_≡_, refl, sym, ap, _∙_}
+use mathlib.Core.Bool.{Bool, true, false}
+use mathlib.Core.List.{List}
+use Prim.Native.Nat.{ℕ, suc, _+_, _-_, _*_, _≤_, _<_}
 use native.Mathlib.Omega.{arith}
 use lib.ListN.{length, set, length-append}
 use Rattle.jumbled.specs.Match.{window}
-use Rattle.jumbled.specs.Scan.{Result, nothing, note, Scanned, backward, standing}
+use Rattle.jumbled.specs.Scan.{Result, nothing, Scanned, backward, standing}
 use Rattle.jumbled.proofs.Cuts.{_then_, nothing-then, backward-at, standing-at}
 use Rattle.listing.specs.declared.Stretch.{Stretch}
 use Rattle.listing.specs.Loops.{Fitting, Listed}
 use Rattle.listing.proofs.Listing.{share, note-share, then-assoc, then-nothing, listed-none, listed-skip, listed-more, listed-length}
-use Rattle.backward.specs.declared.Reached.{Reached}
 use Rattle.backward.specs.Searched.{Searched}
 
 share-most : (t : Bool) (s taken : ℕ) → length (share t s taken .positions) ≤ 1

@@ -1,6 +1,6 @@
 -- `backward::bam` meets its contract: the outer loop's invariant is that the windows before s are done, the inner one's that the window at s
 -- is read down to p. Assumes nothing.
-use Prim.Native.Nat.{ℕ, _+_, _-_}
+use Prim.Native.Nat.{_+_, _-_}
 use native.Mathlib.Omega.{arith}
 use lib.ListN.{length, getD}
 use Rattle.jumbled.specs.Steps.{bamScan}

@@ -3,7 +3,7 @@
 use mathlib.Core.Logic.{⊎-elim}
 use Prim.Native.Nat.{_-_}
 use native.Mathlib.Omega.{arith}
-use lib.ListN.{length, getD}
+use lib.ListN.{length}
 use Rattle.jumbled.specs.Steps.{bam2Scan}
 use Rattle.backward.proofs.Windows.{Going, going-first, going-same-length, going-end}
 use Rattle.backward.proofs.Reading.{scannedBy}
