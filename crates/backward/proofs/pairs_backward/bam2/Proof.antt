@@ -9,8 +9,8 @@ use Rattle.backward.proofs.Windows.{Going, going-first, going-same-leng
 use Rattle.backward.proofs.Reading.{scannedBy}
 use Rattle.backward.proofs.Scanning.{Given, Window, Inner, Taken, window-upto, window-place, inner-first, inner-upto, inner-looks, inner-word, first-added, pair-group, alone-group, single-taken, pair-taken, taken-word, tops-set, tops-clear, inner-on, inner-stop, inner-end}
 use Rattle.backward.proofs.Methods.{bam2Method, bam2-given}
-use Rattle.backward.proofs.bam2.Statement.{statement}
-use Rattle.backward.proofs.bam2.Tie as tie
+use Rattle.backward.proofs.pairs_backward.bam2.Statement.{statement}
+use Rattle.backward.proofs.pairs_backward.bam2.Tie as tie
 
 abbrev Inv-loop : tie.InvT-loop
 Inv-loop pattern text stretch list tables m s₀ at looks₀ word₀ p₀ s looks word p =
@@ -59,11 +59,11 @@ loop-holds c = inner-first (window c)
 sub-p : tie.Need-sub-p Inv-loop μ-loop Inv-windows μ-windows
 sub-p c = omega arith
 
-shared-slice-read-word : tie.Need-shared-slice-read-word Inv-loop μ-loop Inv-windows μ-windows
-shared-slice-read-word c = omega (arith, inner-upto (window (c .before .before .before)) (c .before .before .loop .inv), c .before .loop-test .taken)
+shared-slice-read-right : tie.Need-shared-slice-read-right Inv-loop μ-loop Inv-windows μ-windows
+shared-slice-read-right c = omega (arith, inner-upto (window (c .before .before .before)) (c .before .before .loop .inv), c .before .loop-test .taken)
 
-cast-word : tie.Need-cast-word Inv-loop μ-loop Inv-windows μ-windows
-cast-word c = omega (arith, c .shared-slice-known3 .given (c .before .before .loop .p - 1))
+cast-right : tie.Need-cast-right Inv-loop μ-loop Inv-windows μ-windows
+cast-right c = omega (arith, c .shared-slice-known3 .given (c .before .before .loop .p - 1))
 
 mul-word : tie.Need-mul-word Inv-loop μ-loop Inv-windows μ-windows
 mul-word c = omega (arith, c .shared-slice-known3 .given (c .before .before .loop .p - 1))
@@ -83,11 +83,11 @@ add-looks c = omega (arith, inner-looks (window (c .before .before .before .befo
 sub-p-2 : tie.Need-sub-p-2 Inv-loop μ-loop Inv-windows μ-windows
 sub-p-2 c = omega (arith, c .if2 .taken)
 
-shared-slice-read-word-2 : tie.Need-shared-slice-read-word-2 Inv-loop μ-loop Inv-windows μ-windows
-shared-slice-read-word-2 c = omega (arith, inner-upto (window (c .before .before .before .before .before .before)) (c .before .before .before .before .before .loop .inv), c .before .if2 .taken)
+shared-slice-read-left : tie.Need-shared-slice-read-left Inv-loop μ-loop Inv-windows μ-windows
+shared-slice-read-left c = omega (arith, inner-upto (window (c .before .before .before .before .before .before)) (c .before .before .before .before .before .loop .inv), c .before .if2 .taken)
 
-cast-word-2 : tie.Need-cast-word-2 Inv-loop μ-loop Inv-windows μ-windows
-cast-word-2 c = omega (arith, c .shared-slice-known4 .given (c .before .before .before .before .before .loop .p - 1 - 1))
+cast-left : tie.Need-cast-left Inv-loop μ-loop Inv-windows μ-windows
+cast-left c = omega (arith, c .shared-slice-known4 .given (c .before .before .before .before .before .loop .p - 1 - 1))
 
 mul-word-2 : tie.Need-mul-word-2 Inv-loop μ-loop Inv-windows μ-windows
 mul-word-2 c = omega (arith, c .shared-slice-known4 .given (c .before .before .before .before .before .loop .p - 1 - 1))
@@ -168,15 +168,15 @@ bam2-spec =
     add-p
     loop-holds
     sub-p
-    shared-slice-read-word
-    cast-word
+    shared-slice-read-right
+    cast-right
     mul-word
     element-copy-out-word
     add-word
     add-looks
     sub-p-2
-    shared-slice-read-word-2
-    cast-word-2
+    shared-slice-read-left
+    cast-left
     mul-word-2
     element-copy-out-word-2
     add-word-2

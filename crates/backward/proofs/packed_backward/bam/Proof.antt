@@ -8,8 +8,8 @@ use Rattle.backward.proofs.Windows.{Going, going-first, going-same-leng
 use Rattle.backward.proofs.Reading.{scannedBy}
 use Rattle.backward.proofs.Scanning.{Given, Window, Inner, Taken, window-upto, window-place, inner-first, inner-upto, inner-looks, single-group, single-taken, taken-word, tops-set, tops-clear, inner-on, inner-stop, inner-end}
 use Rattle.backward.proofs.Methods.{bamMethod, bam-given}
-use Rattle.backward.proofs.bam.Statement.{statement}
-use Rattle.backward.proofs.bam.Tie as tie
+use Rattle.backward.proofs.packed_backward.bam.Statement.{statement}
+use Rattle.backward.proofs.packed_backward.bam.Tie as tie
 
 abbrev Inv-loop : tie.InvT-loop
 Inv-loop pattern text stretch list tables m s₀ at looks₀ word₀ p₀ s looks word p =

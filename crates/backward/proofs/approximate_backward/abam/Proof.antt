@@ -13,8 +13,8 @@ use Rattle.backward.proofs.Reading.{scannedBy}
 use Rattle.backward.proofs.Scanning.{readFrom, Given, Window, Taken, window-upto, window-place, inner-first, inner-upto, inner-looks, single-group, single-taken, taken-word, inner-on, inner-stop, inner-end}
 use Rattle.backward.proofs.Errors.{Counting, counting-few, error-first, error-found, error-none}
 use Rattle.backward.proofs.Methods.{abamMethod, abam-given}
-use Rattle.backward.proofs.abam.Statement.{statement}
-use Rattle.backward.proofs.abam.Tie as tie
+use Rattle.backward.proofs.approximate_backward.abam.Statement.{statement}
+use Rattle.backward.proofs.approximate_backward.abam.Tie as tie
 
 abbrev Inv-loop : tie.InvT-loop
 Inv-loop pattern k text stretch list tables m s₀ at looks₀ word₀ errors₀ p₀ s looks word errors p =
