@@ -72,7 +72,7 @@ cc-take n U c = omega (arith, cc-append (take n U) (drop n U) c, ap (λ (l : Lis
 pub cc-drop : (n : ℕ) (U : List ℕ) (c : ℕ) → cc (drop n U) c ≤ cc U c
 cc-drop n U c = omega (arith, cc-append (take n U) (drop n U) c, ap (λ (l : List ℕ). cc l c) (take-append-drop n U))
 
-bit-le : (t : Bool) → bit t ≤ 1
+pub bit-le : (t : Bool) → bit t ≤ 1
 bit-le true = omega arith
 bit-le false = omega arith
 

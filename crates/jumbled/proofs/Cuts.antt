@@ -22,7 +22,7 @@ note-then : (t : Bool) (s taken : ℕ) (a b : Result) → note t s taken (a then
 note-then true s taken a b = ap (λ (n : ℕ). record { positions = s ∷ (a .positions ++ b .positions); inspections = n }) (sym (add-assoc taken (a .inspections) (b .inspections)))
 note-then false s taken a b = ap (λ (n : ℕ). record { positions = a .positions ++ b .positions; inspections = n }) (sym (add-assoc taken (a .inspections) (b .inspections)))
 
-nothing-then : (r : Result) → nothing then r ≡ r
+pub nothing-then : (r : Result) → nothing then r ≡ r
 nothing-then r = ap (λ (n : ℕ). record { positions = r .positions; inspections = n }) (zero-add (r .inspections))
 
 module _ (scanned : List ℕ → Scanned) (m : ℕ) (T : List ℕ) where

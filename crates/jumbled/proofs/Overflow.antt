@@ -47,7 +47,7 @@ unfolding topSet
 kept-none = record { top = refl; holds = lit< tt }
 
 -- a width that leaves room for a letter's start is no 0
-some-bits : (g v : ℕ) → 0 < v → v + 1 ≤ 2 ^ (g - 1) → 0 < g
+pub some-bits : (g v : ℕ) → 0 < v → v + 1 ≤ 2 ^ (g - 1) → 0 < g
 some-bits zero v h starts = omega arith
 some-bits (suc g) v h starts = omega arith
 
@@ -84,7 +84,7 @@ stands P f l =
     ⊎-elim (λ (h : f < 256). ⊎-elim (λ e. for-none h e) (λ e. for-letter h e) (eq-zero-or-pos (cc P f)))
     (λ (h : 256 ≤ f). for-others (omega arith)) (below-or-not f 256)
 
-field-numbered : (P : List ℕ) (b : ℕ) → b < 256 → fieldOf P b < fields
+pub field-numbered : (P : List ℕ) (b : ℕ) → b < 256 → fieldOf P b < fields
 field-numbered P b h =
     ⊎-elim (λ e. rw (field-outside P b e) (omega arith)) (λ i. rw (field-inside P b i) (omega arith)) (eq-zero-or-pos (cc P b))
 

@@ -1,6 +1,6 @@
 -- The word while a window is read: an inspection of a byte adds the byte's unit, and the tests of its top bits are those of the steps.
 use mathlib.Core.Path.{_≡_, ap, _∙_}
-use mathlib.Core.Bool.{Bool, true, false, cond, not}
+use mathlib.Core.Bool.{not}
 use mathlib.Core.List.{List, [], _∷_, map}
 use Prim.Native.Nat.{ℕ, _+_, _^_, _≤_, _<_}
 use native.Mathlib.Nat.{add-zero, lt-of-lt-of-le}
@@ -8,9 +8,9 @@ use native.Mathlib.Omega.{arith}
 use lib.Bits.{bitAnd}
 use lib.Dec.{eqb}
 use lib.Pow.{pow-mono}
-use Rattle.jumbled.specs.Match.{cc}
-use Rattle.jumbled.specs.Fields.{Layout, shared, fields, fieldOf, widthOf, startOf, valueOf, bits, overflows, ownTopSet}
+use Rattle.jumbled.specs.Fields.{Layout, fields, fieldOf, widthOf, startOf, valueOf, bits, overflows, ownTopSet}
 use Rattle.jumbled.proofs.Counts.{cc-nil, cc-cons}
+use Rattle.jumbled.proofs.Overflow.{field-numbered}
 use Rattle.packed.specs.Pack.{pack, topBit, only}
 use Rattle.packed.proofs.Packs.{Fitting, pack-ext, pack-lt, pack-add, tops-test, own-top-test}
 use Rattle.packed.proofs.Words.{unitOf, topOf}
@@ -18,14 +18,6 @@ use Rattle.packed.proofs.Words.{unitOf, topOf}
 -- The word after the bytes R were read
 abbrev pub wordOf : List ℕ → Layout → List ℕ → ℕ
 wordOf P L R = pack (widthOf P L) (valueOf P L R) fields
-
-pub field-lt : (P : List ℕ) (b : ℕ) → b < 256 → fieldOf P b < fields
-unfolding fieldOf
-field-lt P b l = at (eqb (cc P b) 0)
-  where
-    at : (t : Bool) → cond t shared b < fields
-    at true = omega arith
-    at false = omega arith
 
 module _ (P : List ℕ) (L : Layout) where
   pub word-nil : wordOf P L [] ≡ pack (widthOf P L) (startOf P L) fields
@@ -54,4 +46,4 @@ module _ (P : List ℕ) (L : Layout) where
     -- method 4
     pub word-own-top : (b : ℕ) → b < 256 → eqb (bitAnd (wordOf P L R) (topOf P L (fieldOf P b))) 0 ≡ not (ownTopSet P L R b)
     unfolding ownTopSet
-    word-own-top b l = own-top-test (widthOf P L) (valueOf P L R) (fieldOf P b) fields (field-lt P b l) h
+    word-own-top b l = own-top-test (widthOf P L) (valueOf P L R) (fieldOf P b) fields (field-numbered P b l) h

@@ -5,18 +5,19 @@ use mathlib.Core.Bool.{Bool, true, false, cond}
 use mathlib.Core.List.{List}
 use lib.ListN.{length, getD}
 use lib.Dec.{eqb, lit≤}
-use Prim.Native.Nat.{ℕ, zero, suc, _+_, _*_, _-_, _^_, _≤_, _<_, max}
-use native.Mathlib.Nat.{le-antisymm, max-le, pow-suc}
+use Prim.Native.Nat.{ℕ, zero, suc, _+_, _*_, _^_, _≤_, _<_, max}
+use native.Mathlib.Nat.{le-antisymm, max-le}
 use native.Mathlib.Omega.{arith}
 use lib.Pow.{pow-pos, pow-mono}
-use borrow.Author.Tests.{eq-eqb, ne-eqb}
-use Rattle.jumbled.specs.Fields.{lg, Layout, bamLayout, bam2Layout, abamLayout, noLayout, layoutOf, shared, widthOf, bits}
+use borrow.Author.Tests.{ne-eqb}
+use Rattle.jumbled.specs.Fields.{lg, Layout, bamLayout, bam2Layout, abamLayout, noLayout, layoutOf, widthOf, bits}
 use Rattle.jumbled.specs.Match.{cc, sum}
 use Rattle.jumbled.proofs.Sums.{below-or-not, sum-suc}
 use Rattle.jumbled.proofs.Counts.{cc-length}
 use Rattle.parikh.specs.Table.{parikh}
 use Rattle.parikh.proofs.Parikh.{getD-parikh}
 use Rattle.jumbled.proofs.Lg.{lg-enough, lg-least}
+use Rattle.jumbled.proofs.Overflow.{Roomy, bam-roomy, bam2-roomy, abam-roomy, width-shared}
 
 -- ---- lg
 
@@ -63,19 +64,8 @@ pub record Narrow (L : Layout) : Type 0 where
   pub own-most : (v : ℕ) → v ≤ 64 → L .own v ≤ 8
   pub common-most : L .common ≤ 8
 
--- A field has a bit at least, and its start value, 2^(g-1) - v - 1, is not below 0
-pub record Roomy (L : Layout) : Type 0 where
-  pub own-least : (v : ℕ) → v ≤ 64 → 1 ≤ L .own v
-  pub own-start : (v : ℕ) → v ≤ 64 → v + 1 ≤ 2 ^ (L .own v - 1)
-  pub common-least : 1 ≤ L .common
-
 larger-le : (v k : ℕ) → k ≤ 64 → v ≤ 64 → lg (max v k) ≤ 6
 larger-le v k hk hv = lg-le (max v k) (max-le hv hk)
-
-lg-room : (v e : ℕ) → v ≤ 2 ^ e → v + 1 ≤ 2 ^ (e + 2 - 1)
-lg-room v e l =
-    let same : e + 2 - 1 ≡ suc e = omega arith in
-    rw same (omega (arith, pow-suc 2 e, pow-pos e))
 
 -- in each layout of document 01
 pub layout-narrow : (k method : ℕ) → k ≤ 64 → Narrow (layoutOf k method)
@@ -91,26 +81,21 @@ layout-narrow k method h =
     either true l m = l
     either false l m = m
 
--- in those of methods 2, 3 and 4
-pub layout-roomy : (k method : ℕ) → 2 ≤ method → method ≤ 4 → Roomy (layoutOf k method)
+-- in those of methods 2, 3 and 4, what placing a field asks: room for its start value
+pub layout-roomy : (k method : ℕ) → 2 ≤ method → method ≤ 4 → Roomy 0 1 (layoutOf k method)
 layout-roomy k method l h =
-    ⊎-elim (λ (m : method < 3). rw (layout-2 k method (omega arith)) two)
+    ⊎-elim (λ (m : method < 3). rw (layout-2 k method (omega arith)) bam-roomy)
     (λ (m : 3 ≤ method).
-    ⊎-elim (λ (n : method < 4). rw (layout-3 k method (omega arith)) three)
-    (λ (n : 4 ≤ method). rw (layout-4 k method (omega arith)) four) (below-or-not method 4)) (below-or-not method 3)
+    ⊎-elim (λ (n : method < 4). rw (layout-3 k method (omega arith)) (at-least bam2-roomy))
+    (λ (n : 4 ≤ method). rw (layout-4 k method (omega arith)) (at-least (abam-roomy k))) (below-or-not method 4)) (below-or-not method 3)
   where
-    two : Roomy bamLayout
-    two = record { own-least = λ v l. omega arith; own-start = λ v l. lg-room v (lg v) (omega (arith, lg-enough v)); common-least = lit≤ tt }
-
-    three : Roomy bam2Layout
-    three = record { own-least = λ v l. omega arith; own-start = two .own-start; common-least = lit≤ tt }
-
-    four : Roomy (abamLayout k)
-    four =
+    at-least : {j q : ℕ} {L : Layout} → Roomy j (suc q) L → Roomy 0 1 L
+    at-least r =
         record {
-          own-least = λ v l. omega arith;
-          own-start = λ v l. lg-room v (lg (max v k)) (omega (arith, lg-enough (max v k)));
-          common-least = omega arith;
+          starts = r .starts;
+          own-holds = λ v p. omega (arith, r .own-holds v p);
+          common-some = r .common-some;
+          common-holds = omega (arith, r .common-holds);
         }
 
 -- ---- the widths of a pattern's fields
@@ -118,18 +103,6 @@ layout-roomy k method l h =
 -- a counter is how often the pattern has the byte
 pub count-is : (P counts : List ℕ) (c : ℕ) → counts ≡ parikh P → c < 256 → getD counts c 0 ≡ cc P c
 count-is P counts c e l = ap (λ (t : List ℕ). getD t c 0) e ∙ getD-parikh P c l
-
-pub width-shared : (P : List ℕ) (L : Layout) → widthOf P L shared ≡ L .common
-unfolding widthOf
-width-shared P L = refl
-
-pub width-none : (P : List ℕ) (L : Layout) (f : ℕ) → f < 256 → cc P f ≡ 0 → widthOf P L f ≡ 0
-unfolding widthOf
-width-none P L f l e = rw (ne-eqb f 256 (λ q. omega arith), eq-eqb (cc P f) 0 e) refl
-
-pub width-own : (P : List ℕ) (L : Layout) (f : ℕ) → f < 256 → 0 < cc P f → widthOf P L f ≡ L .own (cc P f)
-unfolding widthOf
-width-own P L f l h = rw (ne-eqb f 256 (λ q. omega arith), ne-eqb (cc P f) 0 (λ q. omega arith)) refl
 
 pub width-most : (P : List ℕ) (L : Layout) (f : ℕ) → length P ≤ 64 → Narrow L → widthOf P L f ≤ 8
 unfolding widthOf

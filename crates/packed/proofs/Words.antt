@@ -6,20 +6,18 @@ use Prim.Native.Nat.{ℕ, suc, _+_, _*_, _-_, _^_, _≤_, _<_}
 use native.Mathlib.Nat.{zero-add, one-mul}
 use native.Mathlib.Numerals.{add-one}
 use native.Mathlib.Omega.{arith}
-use lib.ListN.{length, set, replicate}
+use lib.ListN.{set, replicate}
 use lib.Pow.{pow-pos, pow-mono}
-use borrow.Author.Tests.{eq-eqb, ne-eqb}
 use Rattle.jumbled.specs.Match.{cc, sum}
 use Rattle.jumbled.specs.Fields.{Layout, shared, fields, fieldOf, widthOf, startOf, bits}
 use Rattle.jumbled.proofs.Sums.{sum-zero, sum-suc}
-use Rattle.jumbled.proofs.Counts.{cc-length}
+use Rattle.jumbled.proofs.Overflow.{Roomy, some-bits, width-none, width-own, field-inside, field-outside}
 use Rattle.parikh.specs.Table.{tabulate}
 use Rattle.parikh.proofs.Filled.{filled, filled-none, filled-set, filled-skip, filled-all}
 use Rattle.packed.specs.Pack.{pack, topBit, only}
 use Rattle.packed.specs.Word.{Placed, Packed}
 use Rattle.packed.specs.declared.Field.{Field}
 use Rattle.packed.proofs.Packs.{Fitting, sum-upto, pack-suc, pack-lt, pack-upto, pack-empty, pack-only, tops-fitting}
-use Rattle.packed.proofs.Widths.{Roomy, width-none, width-own}
 
 -- ---- the word
 
@@ -62,9 +60,9 @@ module _ (P : List ℕ) (L : Layout) where
       omega (arith, pow-pos (widthOf P L f - 1))
 
   -- what `field_at` requires of a field of the pattern's own
-  pub own-room : (f : ℕ) → Roomy L → length P ≤ 64 → f < 256 → 0 < cc P f → (1 ≤ widthOf P L f) × (cc P f + 1 ≤ 2 ^ (widthOf P L f - 1))
-  own-room f r h l m =
-      rw (width-own P L f l m) (r .own-least (cc P f) (omega (arith, cc-length P f)), r .own-start (cc P f) (omega (arith, cc-length P f)))
+  pub own-room : (f : ℕ) → Roomy 0 1 L → f < 256 → 0 < cc P f → (1 ≤ widthOf P L f) × (cc P f + 1 ≤ 2 ^ (widthOf P L f - 1))
+  own-room f r l m =
+      rw (width-own P L f l m) (some-bits (L .own (cc P f)) (cc P f) m (r .starts (cc P f) m), r .starts (cc P f) m)
 
   -- and of every field: it is within the word
   pub word-room : (f : ℕ) → bits P L ≤ 64 → f < fields → sum f (widthOf P L) + widthOf P L f ≤ 64
@@ -80,14 +78,6 @@ module _ (P : List ℕ) (L : Layout) where
   unfolding topBit
   top-none f l e = rw (width-none P L f l e) refl
 
-pub field-own : (P : List ℕ) (c : ℕ) → 0 < cc P c → fieldOf P c ≡ c
-unfolding fieldOf
-field-own P c l = rw (ne-eqb (cc P c) 0 (λ e. omega arith)) refl
-
-pub field-none : (P : List ℕ) (c : ℕ) → cc P c ≡ 0 → fieldOf P c ≡ shared
-unfolding fieldOf
-field-none P c e = rw (eq-eqb (cc P c) 0 e) refl
-
 -- ---- a table of a number for each byte, by its field
 
 -- The table once the bytes below c are placed
@@ -99,10 +89,10 @@ module _ (P : List ℕ) (h : ℕ → ℕ) where
   table-first v e = ap (replicate 256) e ∙ filled-none 256 (λ i. h (fieldOf P i)) (h shared)
 
   table-own : (c v : ℕ) (t : List ℕ) → t ≡ Table P h c → 0 < cc P c → v ≡ h c → set t c v ≡ Table P h (c + 1)
-  table-own c v t s l e = rw s (filled-set 256 (λ i. h (fieldOf P i)) (h shared) c v (e ∙ ap h (sym (field-own P c l))))
+  table-own c v t s l e = rw s (filled-set 256 (λ i. h (fieldOf P i)) (h shared) c v (e ∙ ap h (sym (field-inside P c l))))
 
   table-none : (c : ℕ) → cc P c ≡ 0 → Table P h c ≡ Table P h (c + 1)
-  table-none c e = filled-skip 256 (λ i. h (fieldOf P i)) (h shared) c (ap h (field-none P c e))
+  table-none c e = filled-skip 256 (λ i. h (fieldOf P i)) (h shared) c (ap h (field-outside P c e))
 
   table-last : Table P h 256 ≡ tabulate 256 (λ i. h (fieldOf P i))
   table-last = filled-all 256 (λ i. h (fieldOf P i)) (h shared) 256 (omega arith)

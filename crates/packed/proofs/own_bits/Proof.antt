@@ -9,7 +9,8 @@ use Rattle.jumbled.specs.Match.{cc, sum}
 use Rattle.jumbled.specs.Fields.{layoutOf, widthOf}
 use Rattle.jumbled.proofs.Sums.{sum-zero, sum-suc}
 use Rattle.jumbled.proofs.Counts.{cc-length}
-use Rattle.packed.proofs.Widths.{count-is, layout-narrow, width-none, width-own, widths-most}
+use Rattle.jumbled.proofs.Overflow.{width-none, width-own}
+use Rattle.packed.proofs.Widths.{count-is, layout-narrow, widths-most}
 use Rattle.packed.proofs.own_bits.Statement.{statement}
 use Rattle.packed.proofs.own_bits.Tie as tie
 

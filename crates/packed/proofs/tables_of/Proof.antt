@@ -10,7 +10,8 @@ use lib.ListN.{getD, set}
 use Rattle.jumbled.specs.Match.{Bytes, cc}
 use Rattle.jumbled.specs.Fields.{Layout, layoutOf, shared, fields, widthOf}
 use Rattle.jumbled.proofs.Counts.{cc-length, cc-out}
-use Rattle.packed.proofs.Widths.{Roomy, layout-roomy, count-is, width-shared, width-own}
+use Rattle.jumbled.proofs.Overflow.{Roomy, width-shared, width-own}
+use Rattle.packed.proofs.Widths.{layout-roomy, count-is}
 use Rattle.packed.proofs.Words.{Sofar, Fits64, field-is, sofar-first, sofar-own, sofar-none, sofar-last, own-room, word-room, sofar-fits}
 use Rattle.packed.proofs.tables_of.Statement.{statement}
 use Rattle.packed.proofs.tables_of.Tie as tie
@@ -29,7 +30,7 @@ pattern s = s .args .pattern .now
 abbrev layout : tie.Start Inv-loop μ-loop → Layout
 layout s = layoutOf (s .args .k) (s .args .method)
 
-roomy : (s : tie.Start Inv-loop μ-loop) → Roomy (layout s)
+roomy : (s : tie.Start Inv-loop μ-loop) → Roomy 0 1 (layout s)
 roomy s = layout-roomy (s .args .k) (s .args .method) (s .pre .from) (s .pre .to)
 
 counts-requires : tie.Need-counts-requires Inv-loop μ-loop
@@ -50,7 +51,7 @@ shared-width-is c = c .before .shared-width .ensures ∙ sym (width-shared (patt
 field-at-requires : tie.Need-field-at-requires Inv-loop μ-loop
 field-at-requires c κs =
     let s = c .before .before .before .before in (
-      omega (arith, c .before .shared-width .ensures, roomy s .common-least),
+      omega (arith, c .before .shared-width .ensures, roomy s .common-some),
       omega (arith, shared-width-is c, c .own-bits .ensures, word-room (pattern s) (layout s) shared (s .pre .fits) (lit< tt)),
       pow-pos (c .before .shared-width .result - 1),
     )
@@ -97,7 +98,7 @@ field-at-requires-2 c κs =
     let s = c .before .before .before .before .before .before .before .before .before in
     let at = c .before .before .before .loop in
     let below = c .before .before .loop-test .taken in
-    let room = own-room (pattern s) (layout s) (at .byte) (roomy s) (s .pre .short) below (occurs (c .before)) in
+    let room = own-room (pattern s) (layout s) (at .byte) (roomy s) below (occurs (c .before)) in
     rw (width-is c, counted (c .before .before), at .inv .at-is)
     (room .0, word-room (pattern s) (layout s) (at .byte) (s .pre .fits) (omega (arith, below)), room .1)
 

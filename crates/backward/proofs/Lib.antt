@@ -1,0 +1,5 @@
+pub mod Windows
+pub mod Reading
+pub mod Scanning
+pub mod Methods
+pub mod Errors

@@ -1,0 +1,47 @@
+ghost use lib.ListN.{length};
+ghost use Rattle.jumbled.specs.Steps.{abamScan};
+ghost use Rattle.backward.specs.Searched.{Searchable, Searched};
+use crate::Reached;
+use crate::position;
+use listing::Stretch;
+use packed::Tables;
+
+// Method 4: one byte a step, an error counted where the byte's own top bit is set after it, until the errors pass k.
+pub fn abam(
+    pattern: &[u8],
+    k: usize,
+    tables: Tables,
+    text: &[u8],
+    stretch: Stretch,
+    list: &mut [u32],
+) -> Reached
+    requires { ⌜ Searchable (now pattern) k 4 tables (now text) stretch (now list) ⌝ }
+    ensures { λ r. ⌜ Searched (abamScan (now (pattern .entry)) k) (length (now (pattern .entry))) (now (text .entry)) stretch (now (list .entry)) (now (list .exit)) r ⌝ }
+{
+    let m = pattern.len();
+    let mut s = stretch.first;
+    let mut at = stretch.at;
+    let mut looks: usize = 0;
+    'windows: while s < stretch.end {
+        let mut word = tables.start;
+        let mut errors: usize = 0;
+        let mut p = s + m;
+        while s < p {
+            p -= 1;
+            let byte = text[p] as usize;
+            word += tables.units[byte];
+            looks += 1;
+            if word & tables.own_tops[byte] != 0 {
+                errors += 1;
+            }
+            if errors > k {
+                s = p + 1;
+                continue 'windows;
+            }
+        }
+        list[at] = position(stretch.base, s);
+        at += 1;
+        s += 1;
+    }
+    Reached { next: s, at, looks }
+}
