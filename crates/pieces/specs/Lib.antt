@@ -1,3 +1,4 @@
 pub mod Seam
 pub mod Joined
 pub mod Counting
+pub mod Scans

@@ -7,10 +7,15 @@ ghost use lib.ListN.{length, take};
 ghost use Rattle.pieces.specs.Seam.{contents};
 ghost use Rattle.parikh.specs.Table.{parikh};
 ghost use Rattle.jumbled.specs.Steps.{countJudged};
-ghost use Rattle.pieces.specs.Joined.{Parted, Joinable, Found, Startable, forwardOver};
+ghost use Rattle.pieces.specs.Joined.{Parted, Joinable, Found, Startable, forwardOver, backwardOver};
 ghost use Rattle.pieces.specs.Counting.{CountedSeam};
+ghost use Rattle.backward.specs.Searched.{Searchable, Searched};
+ghost use Rattle.packed.specs.Word.{Packable};
+ghost use Rattle.pieces.specs.Scans.{scanOf};
+use backward::Reached;
 use forward::Counted;
 use listing::Stretch;
+use packed::Tables;
 
 // How many positions a search found, and the inspections that it made.
 pub struct Done {
@@ -172,6 +177,76 @@ pub fn count_pieces(
         over_chunk,
         list,
     );
+    Done {
+        found: second.at,
+        looks: first.looks + second.looks,
+    }
+}
+
+// Methods 2, 3 and 4 over the windows of one stretch.
+fn backward_stretch(
+    pattern: &[u8],
+    k: usize,
+    method: u8,
+    tables: Tables,
+    text: &[u8],
+    stretch: Stretch,
+    list: &mut [u32],
+) -> Reached
+    requires { ⌜ (Searchable (now pattern) k method tables (now text) stretch (now list)) × (2 ≤ method) × (method ≤ 4) ⌝ }
+    ensures { λ r. ⌜ Searched (scanOf (now (pattern .entry)) k method) (length (now (pattern .entry))) (now (text .entry)) stretch (now (list .entry)) (now (list .exit)) r ⌝ }
+{
+    if method == 2 {
+        return backward::bam(pattern, tables, text, stretch, list);
+    }
+    if method == 3 {
+        return backward::bam2(pattern, tables, text, stretch, list);
+    }
+    backward::abam(pattern, k, tables, text, stretch, list)
+}
+
+// Methods 2, 3 and 4 over a tail followed by a chunk.
+pub fn backward_pieces(
+    pattern: &[u8],
+    k: usize,
+    method: u8,
+    tail: &[u8],
+    chunk: &[u8],
+    base: usize,
+    list: &mut [u32],
+) -> Done
+    requires { ⌜ (Joinable (now pattern) (now tail) (now chunk) base (now list)) × (Packable (now pattern) k method) ⌝ }
+    ensures { λ r. ⌜ Found (backwardOver (scanOf (now (pattern .entry)) k method) (length (now (pattern .entry))) (now (tail .entry) ++ now (chunk .entry))) base (now (list .entry)) (now (list .exit)) r ⌝ }
+{
+    let split = split_starts(pattern.len(), tail.len(), chunk.len());
+    let in_tail = split.in_tail;
+    let in_chunk = split.in_chunk;
+    let tables = packed::tables_of(pattern, k, method);
+    let seam = seam_of(tail, chunk, pattern.len());
+    let bytes = seam.bytes;
+    let len = seam.len;
+    let over_tail = Stretch {
+        first: 0,
+        end: in_tail,
+        base,
+        at: 0,
+    };
+    let first = backward_stretch(pattern, k, method, tables, &bytes[..len], over_tail, list);
+    // The last scan in the tail may pass over window starts of the chunk.
+    let passed = first.next - in_tail;
+    if in_chunk <= passed {
+        return Done {
+            found: first.at,
+            looks: first.looks,
+        };
+    }
+    let over_chunk = Stretch {
+        first: passed,
+        end: in_chunk,
+        base: base + tail.len(),
+        at: first.at,
+    };
+    let second = backward_stretch(pattern, k, method, tables, chunk, over_chunk, list);
     Done {
         found: second.at,
         looks: first.looks + second.looks,
