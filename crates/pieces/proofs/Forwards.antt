@@ -1,13 +1,17 @@
 -- A forward method over a tail followed by a chunk: the windows of the seam, its first bytes taken before, and then those of the chunk.
 use mathlib.Core.Path.{_≡_, refl, sym, ap, ap₂, _∙_}
+use mathlib.Core.Bool.{Bool, true, false, cond}
 use mathlib.Core.List.{List, [], _++_, append-nil}
 use Prim.Native.Nat.{ℕ, zero, suc, _+_, _-_, _*_, _^_, _≤_, _<_}
 use native.Mathlib.Nat.{le-refl, sub-zero}
 use native.Mathlib.Omega.{arith}
+use lib.Dec.{eqb}
 use lib.ListN.{length, take, drop}
 use lib.Seq.{drop-append-seam, take-take}
-use Rattle.jumbled.specs.Match.{starts}
-use Rattle.jumbled.specs.Scan.{Result, nothing, Judged, forward}
+use Rattle.jumbled.specs.Match.{matches, starts}
+use Rattle.jumbled.specs.Heap.{heapSum, exact}
+use Rattle.jumbled.specs.Steps.{hcamJudged}
+use Rattle.jumbled.specs.Scan.{Result, Judged, unverified, forward}
 use Rattle.jumbled.proofs.Cuts.{_then_, moved, forward-count, forward-most}
 use Rattle.listing.specs.declared.Stretch.{Stretch}
 use Rattle.listing.specs.Loops.{Fitting, Listed}
@@ -25,6 +29,17 @@ lead-seam m tail chunk s e =
     ap (λ (n : ℕ). take (m - 1) (drop n (tail ++ take (m - 1) chunk))) e
     ∙ ap (take (m - 1)) (drop-append-seam tail (take (m - 1) chunk))
     ∙ take-take (m - 1) (m - 1) chunk (le-refl (m - 1))
+
+-- a verification takes the window's bytes
+pub hcam-few : (P : List ℕ) → length P ≤ 64 → (W : List ℕ) → hcamJudged P W .verification ≤ 64
+unfolding hcamJudged
+hcam-few P short W = case (eqb (heapSum P W) (heapSum P P)) (exact P)
+  where
+    case : (t x : Bool)
+        → cond t (cond x (unverified true) (record { listed = matches P 0 W; verification = length P })) (unverified false) .verification ≤ 64
+    case true true = omega arith
+    case true false = short
+    case false x = omega arith
 
 -- a stretch that begins at a text's first window start
 abbrev pub from-first : ℕ → ℕ → ℕ → Stretch

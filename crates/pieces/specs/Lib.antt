@@ -1,4 +1,5 @@
 pub mod Seam
 pub mod Joined
 pub mod Counting
+pub mod Hashing
 pub mod Scans

@@ -6,14 +6,17 @@ ghost use Prim.Native.Nat.{_+_, _-_, _^_, _≤_, _<_};
 ghost use lib.ListN.{length, take};
 ghost use Rattle.pieces.specs.Seam.{contents};
 ghost use Rattle.parikh.specs.Table.{parikh};
-ghost use Rattle.jumbled.specs.Steps.{countJudged};
+ghost use Rattle.jumbled.specs.Steps.{countJudged, hcamJudged};
 ghost use Rattle.pieces.specs.Joined.{Parted, Joinable, Found, Startable, forwardOver, backwardOver};
 ghost use Rattle.pieces.specs.Counting.{CountedSeam};
+ghost use Rattle.pieces.specs.Hashing.{HashableSeam, HashedSeam};
 ghost use Rattle.backward.specs.Searched.{Searchable, Searched};
 ghost use Rattle.packed.specs.Word.{Packable};
 ghost use Rattle.pieces.specs.Scans.{scanOf};
 use backward::Reached;
 use forward::Counted;
+use forward::Hashed;
+use heap::HeapTable;
 use listing::Stretch;
 use packed::Tables;
 
@@ -174,6 +177,98 @@ pub fn count_pieces(
         k,
         chunk,
         first.sliding,
+        over_chunk,
+        list,
+    );
+    Done {
+        found: second.at,
+        looks: first.looks + second.looks,
+    }
+}
+
+// Method 5 over the windows of the seam, from its first one on.
+fn hcam_seam(
+    pattern: &[u8],
+    pattern_counts: [usize; 256],
+    table: HeapTable,
+    target: u64,
+    seam: &[u8],
+    stretch: Stretch,
+    list: &mut [u32],
+) -> Hashed
+    requires { ⌜ HashableSeam (now pattern) «pattern_counts» table target (now seam) stretch (now list) ⌝ }
+    ensures { λ r. ⌜ HashedSeam (now (pattern .entry)) (now (seam .entry)) stretch (now (list .entry)) (now (list .exit)) r ⌝ }
+{
+    let start = forward::hcam_start(pattern, table, seam);
+    let windows = forward::hcam_windows(
+        pattern,
+        pattern_counts,
+        table,
+        target,
+        seam,
+        start.sum,
+        stretch,
+        list,
+    );
+    Hashed {
+        sum: windows.sum,
+        at: windows.at,
+        looks: start.looks + windows.looks,
+    }
+}
+
+// Method 5 over a tail followed by a chunk.
+pub fn hcam_pieces(pattern: &[u8], tail: &[u8], chunk: &[u8], base: usize, list: &mut [u32]) -> Done
+    requires { ⌜ Joinable (now pattern) (now tail) (now chunk) base (now list) ⌝ }
+    ensures { λ r. ⌜ Found (forwardOver (hcamJudged (now (pattern .entry))) (length (now (pattern .entry))) (now (tail .entry) ++ now (chunk .entry))) base (now (list .entry)) (now (list .exit)) r ⌝ }
+{
+    let split = split_starts(pattern.len(), tail.len(), chunk.len());
+    let in_tail = split.in_tail;
+    let in_chunk = split.in_chunk;
+    if in_tail + in_chunk == 0 {
+        return Done { found: 0, looks: 0 };
+    }
+    let pattern_counts = parikh::counts(pattern);
+    let table = heap::heap_table(pattern);
+    let values = table.values;
+    let target = forward::hcam_sum(values, pattern);
+    let seam = seam_of(tail, chunk, pattern.len());
+    let bytes = seam.bytes;
+    let len = seam.len;
+    let over_tail = Stretch {
+        first: 0,
+        end: in_tail,
+        base,
+        at: 0,
+    };
+    let first = hcam_seam(
+        pattern,
+        pattern_counts,
+        table,
+        target,
+        &bytes[..len],
+        over_tail,
+        list,
+    );
+    if in_chunk == 0 {
+        return Done {
+            found: first.at,
+            looks: first.looks,
+        };
+    }
+    let over_chunk = Stretch {
+        first: 0,
+        end: in_chunk,
+        base: base + tail.len(),
+        at: first.at,
+    };
+    let second = forward::hcam_windows(
+        pattern,
+        pattern_counts,
+        table,
+        target,
+        chunk,
+        first.sum,
         over_chunk,
         list,
     );
