@@ -4,3 +4,4 @@ pub mod Stretches
 pub mod Forwards
 pub mod Backwards
 pub mod Scans
+pub mod Steps

@@ -5,7 +5,7 @@ use Prim.Native.Nat.{ℕ, suc, _+_, _-_, _^_, _≤_, _<_, min}
 use lib.ListN.{length}
 use Rattle.jumbled.specs.Match.{starts}
 use Rattle.jumbled.specs.Scan.{Result, Scanned, backward, Judged, forward}
-use Rattle.jumbled.specs.Fields.{bits, layoutOf}
+use Rattle.jumbled.specs.Refusals.{given, methodTests}
 use Rattle.listing.specs.declared.Stretch.{Stretch}
 use Rattle.listing.specs.Loops.{Fitting}
 use Rattle.listing.specs.Placed.{placed, shifted}
@@ -23,6 +23,12 @@ pub record Joinable (P tail chunk : List ℕ) (base : ℕ) (list : List ℕ) : T
   pub tail-short : length tail < length P
   pub numbered : base + (length tail + length chunk) ≤ 2 ^ 32
   pub room : length chunk ≤ length list
+
+-- The same of a tolerance and a method that 2 to 5 do not refuse
+pub record Searchable (P : List ℕ) (k method : ℕ) (tail chunk : List ℕ) (base : ℕ) (list : List ℕ) : Type 0 where
+  pub joinable : Joinable P tail chunk base list
+  pub within : k < length P
+  pub taken : given (methodTests P k method) ≡ 0
 
 -- The result's positions, with the base added, stand in the list's first places, and every other place is as it was
 pub record Found (result : Result) (base : ℕ) (before after : List ℕ) (r : Done) : Type 0 where

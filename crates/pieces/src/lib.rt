@@ -6,11 +6,11 @@ ghost use Prim.Native.Nat.{_+_, _-_, _^_, _≤_, _<_};
 ghost use lib.ListN.{length, take};
 ghost use Rattle.pieces.specs.Seam.{contents};
 ghost use Rattle.parikh.specs.Table.{parikh};
-ghost use Rattle.jumbled.specs.Steps.{countJudged, hcamJudged};
-ghost use Rattle.pieces.specs.Joined.{Parted, Joinable, Found, Startable, forwardOver, backwardOver};
+ghost use Rattle.jumbled.specs.Steps.{countJudged, hcamJudged, steps};
+ghost use Rattle.pieces.specs.Joined.{Parted, Joinable, Found, Searchable, Startable, forwardOver, backwardOver};
 ghost use Rattle.pieces.specs.Counting.{CountedSeam};
 ghost use Rattle.pieces.specs.Hashing.{HashableSeam, HashedSeam};
-ghost use Rattle.backward.specs.Searched.{Searchable, Searched};
+ghost use Rattle.backward.specs.Searched.{Searchable as Scannable, Searched};
 ghost use Rattle.packed.specs.Word.{Packable};
 ghost use Rattle.pieces.specs.Scans.{scanOf};
 use backward::Reached;
@@ -131,7 +131,7 @@ fn count_seam(
 }
 
 // Method 1 over a tail followed by a chunk.
-pub fn count_pieces(
+fn count_pieces(
     pattern: &[u8],
     k: usize,
     tail: &[u8],
@@ -218,7 +218,7 @@ fn hcam_seam(
 }
 
 // Method 5 over a tail followed by a chunk.
-pub fn hcam_pieces(pattern: &[u8], tail: &[u8], chunk: &[u8], base: usize, list: &mut [u32]) -> Done
+fn hcam_pieces(pattern: &[u8], tail: &[u8], chunk: &[u8], base: usize, list: &mut [u32]) -> Done
     requires { ⌜ Joinable (now pattern) (now tail) (now chunk) base (now list) ⌝ }
     ensures { λ r. ⌜ Found (forwardOver (hcamJudged (now (pattern .entry))) (length (now (pattern .entry))) (now (tail .entry) ++ now (chunk .entry))) base (now (list .entry)) (now (list .exit)) r ⌝ }
 {
@@ -288,7 +288,7 @@ fn backward_stretch(
     stretch: Stretch,
     list: &mut [u32],
 ) -> Reached
-    requires { ⌜ (Searchable (now pattern) k method tables (now text) stretch (now list)) × (2 ≤ method) × (method ≤ 4) ⌝ }
+    requires { ⌜ (Scannable (now pattern) k method tables (now text) stretch (now list)) × (2 ≤ method) × (method ≤ 4) ⌝ }
     ensures { λ r. ⌜ Searched (scanOf (now (pattern .entry)) k method) (length (now (pattern .entry))) (now (text .entry)) stretch (now (list .entry)) (now (list .exit)) r ⌝ }
 {
     if method == 2 {
@@ -301,7 +301,7 @@ fn backward_stretch(
 }
 
 // Methods 2, 3 and 4 over a tail followed by a chunk.
-pub fn backward_pieces(
+fn backward_pieces(
     pattern: &[u8],
     k: usize,
     method: u8,
@@ -346,4 +346,26 @@ pub fn backward_pieces(
         found: second.at,
         looks: first.looks + second.looks,
     }
+}
+
+// The steps of any method over a tail followed by a chunk.
+pub fn search_pieces(
+    pattern: &[u8],
+    k: u8,
+    method: u8,
+    tail: &[u8],
+    chunk: &[u8],
+    base: usize,
+    list: &mut [u32],
+) -> Done
+    requires { ⌜ Searchable (now pattern) k method (now tail) (now chunk) base (now list) ⌝ }
+    ensures { λ r. ⌜ Found (steps (now (pattern .entry)) k method (now (tail .entry) ++ now (chunk .entry))) base (now (list .entry)) (now (list .exit)) r ⌝ }
+{
+    if method == 1 {
+        return count_pieces(pattern, k as usize, tail, chunk, base, list);
+    }
+    if method == 5 {
+        return hcam_pieces(pattern, tail, chunk, base, list);
+    }
+    backward_pieces(pattern, k as usize, method, tail, chunk, base, list)
 }
