@@ -158,7 +158,7 @@ pub fn hcam_windows(
     table: HeapTable,
     target: u64,
     text: &[u8],
-    sum: u64,
+    mut sum: u64,
     stretch: Stretch,
     list: &mut [u32],
 ) -> Hashed
@@ -170,7 +170,6 @@ pub fn hcam_windows(
     let exact = table.exact;
     let base = stretch.base;
     let end = stretch.end;
-    let mut sum = sum;
     let mut at = stretch.at;
     let mut looks = 0;
     for s in stretch.first..end {
