@@ -5,7 +5,6 @@
 ghost use mathlib.Core.Path.{_≡_};
 ghost use mathlib.Core.List.{List};
 ghost use Prim.Native.Nat.{ℕ};
-ghost use lib.ListN.{length};
 ghost use Rattle.jumbled.specs.Match.{matches};
 ghost use Rattle.jumbled.specs.Heap.{heapValue, heapSum};
 ghost use Rattle.parikh.specs.Table.{tabulate, parikh};
