@@ -5,7 +5,6 @@
 ghost use mathlib.Core.Path.{_≡_};
 ghost use mathlib.Core.List.{List};
 ghost use Prim.Native.Nat.{ℕ};
-ghost use lib.ListN.{length};
 ghost use Rattle.jumbled.specs.Match.{matches};
 ghost use Rattle.jumbled.specs.Heap.{heapValue, heapSum};
 ghost use Rattle.parikh.specs.Table.{tabulate, parikh};
@@ -158,7 +157,7 @@ pub fn hcam_windows(
     table: HeapTable,
     target: u64,
     text: &[u8],
-    sum: u64,
+    mut sum: u64,
     stretch: Stretch,
     list: &mut [u32],
 ) -> Hashed
@@ -170,7 +169,6 @@ pub fn hcam_windows(
     let exact = table.exact;
     let base = stretch.base;
     let end = stretch.end;
-    let mut sum = sum;
     let mut at = stretch.at;
     let mut looks = 0;
     for s in stretch.first..end {

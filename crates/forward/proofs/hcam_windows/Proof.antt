@@ -28,13 +28,6 @@ record Running (P : List ℕ) (T : List ℕ) (stretch : Stretch) (before after :
   progress : Progress (hcamJudged P) (length P) T stretch before after at looks s
   state : sum ≡ heapSum P (lead (length P) T s)
 
-abbrev Inv-loop : tie.InvT-loop
-Inv-loop pattern pattern-counts target text sum list₀ m values exact base end sum₀ at₀ looks₀ s₀ list sum' at looks s =
-    Running pattern text (record { first = s₀; end = end; base = base; at = at₀ }) list₀ list sum' at looks s
-
-abbrev μ-loop : tie.MeasureT-loop
-μ-loop pattern pattern-counts target text sum list₀ m values exact base end sum₀ at₀ looks₀ s₀ list sum' at looks s = end - s
-
 -- and in a turn of the loop
 record Sums (P wanted : List ℕ) (table : HeapTable) (target : ℕ) (T : List ℕ) (stretch : Stretch) (before after : List ℕ) (sum at looks s : ℕ) : Type 0 where
   turn : Turn (hcamJudged P) (length P) T stretch before after at looks s
@@ -90,6 +83,13 @@ module _ {P wanted : List ℕ} {table : HeapTable} {target : ℕ} {T : List ℕ}
     found-none e answer taken =
         let judged = judged-other P (window (length P) T s) (λ h. eqb-false summed target e (over-window ∙ h ∙ sym (here .own-sum))) in
         record { right = rw judged (answer ∙ e); counted = rw judged taken; bounded = omega arith }
+
+abbrev Inv-loop : tie.InvT-loop
+Inv-loop pattern pattern-counts target text sum₀ list₀ m values exact base end at₀ looks₀ s₀ sum list at looks s =
+    Running pattern text (record { first = s₀; end = end; base = base; at = at₀ }) list₀ list sum at looks s
+
+abbrev μ-loop : tie.MeasureT-loop
+μ-loop pattern pattern-counts target text sum₀ list₀ m values exact base end at₀ looks₀ s₀ sum list at looks s = end - s
 
 sums-here : (c : tie.After-shared-slice-known3 Inv-loop μ-loop)
     → Sums (c .before .before .before .before .before .before .before .args .pattern .now)
