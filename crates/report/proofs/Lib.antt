@@ -2,3 +2,8 @@
 pub mod Puts
 pub mod Decimals
 pub mod Lines
+pub mod Cuts
+pub mod Fields
+pub mod Splits
+pub mod Texts
+pub mod Requests

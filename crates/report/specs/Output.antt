@@ -8,7 +8,7 @@ use lib.Dec.{ltb, eqb}
 use lib.ListN.{length}
 use Rattle.jumbled.specs.Match.{positions}
 use Rattle.jumbled.specs.Steps.{steps}
-use Rattle.report.specs.Request.{zeroDigit, methodOf, toleranceOf, patternField, textOf, requestRefusal}
+use Rattle.report.specs.Request.{zeroDigit, methodOf, toleranceOf, patternOf, textOf, requestRefusal}
 
 -- A text's letters as their ASCII codes
 unfoldable pub ascii : Text.String → List ℕ
@@ -58,7 +58,7 @@ refusalText number = ascii "refused " ++ numberLine number
 unfoldable pub output : List ℕ → List ℕ
 output input =
     cond (eqb (requestRefusal input) 0)
-    (outputText (patternField input) (toleranceOf input) (methodOf input)
-    (positions (patternField input) (toleranceOf input) (textOf input))
-    (steps (patternField input) (toleranceOf input) (methodOf input) (textOf input) .inspections))
+    (outputText (patternOf input) (toleranceOf input) (methodOf input)
+    (positions (patternOf input) (toleranceOf input) (textOf input))
+    (steps (patternOf input) (toleranceOf input) (methodOf input) (textOf input) .inspections))
     (refusalText (requestRefusal input))

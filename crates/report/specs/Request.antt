@@ -57,37 +57,42 @@ unfoldable pub spelled : ℕ → List ℕ → ℕ
 spelled n [] = n
 spelled n (b ∷ F) = spelled (10 * n + (b - zeroDigit)) F
 
--- ---- the first line: "method digit, space, k .., space, pattern up to the newline". What follows is said of every input; where the first
--- line is bad, its fields have no meaning, and no answer depends on them.
+-- ---- the first line: "method digit, space, k .., space, pattern up to the newline". All that follows is said of every input; where the
+-- first line is bad, its fields have no meaning, and no answer depends on them.
 
-unfoldable pub firstLine : List ℕ → List ℕ
-firstLine input = before newline input
-
--- Up to the first space, between the first and the second, and all that follows the second, further spaces included
+-- up to the first space
 unfoldable pub methodField : List ℕ → List ℕ
-methodField input = before space (firstLine input)
+methodField line = before space line
 
+-- between the first space and the second
 unfoldable pub toleranceField : List ℕ → List ℕ
-toleranceField input = before space (after space (firstLine input))
+toleranceField line = before space (after space line)
 
+-- all that follows the second space, further spaces included; it may be empty, and is then refused with 1
 unfoldable pub patternField : List ℕ → List ℕ
-patternField input = after space (after space (firstLine input))
+patternField line = after space (after space line)
 
--- The first line has the form asked for; any digit passes here, and 0 and 6 to 9 are refused with 3
+-- The line has the form asked for. Any digit passes as a method here: 0 and 6 to 9 are refused with 3.
 unfoldable pub goodLine : List ℕ → Bool
 goodLine line =
     has space line
     && has space (after space line)
-    && methodForm (before space line)
-    && toleranceForm (before space (after space line))
+    && methodForm (methodField line)
+    && toleranceForm (toleranceField line)
 
 -- ---- what the input asks for
 
+unfoldable pub firstLine : List ℕ → List ℕ
+firstLine input = before newline input
+
 unfoldable pub methodOf : List ℕ → ℕ
-methodOf input = spelled 0 (methodField input)
+methodOf input = spelled 0 (methodField (firstLine input))
 
 unfoldable pub toleranceOf : List ℕ → ℕ
-toleranceOf input = spelled 0 (toleranceField input)
+toleranceOf input = spelled 0 (toleranceField (firstLine input))
+
+unfoldable pub patternOf : List ℕ → List ℕ
+patternOf input = patternField (firstLine input)
 
 -- U, less one last newline if it ends with one
 unfoldable pub lessNewline : List ℕ → List ℕ
@@ -111,4 +116,4 @@ badLine input = not (has newline input && goodLine (firstLine input))
 unfoldable pub requestRefusal : List ℕ → ℕ
 requestRefusal input =
     given
-    (programTests (tooLong input) (badLine input) (patternField input) (toleranceOf input) (methodOf input))
+    (programTests (tooLong input) (badLine input) (patternOf input) (toleranceOf input) (methodOf input))
