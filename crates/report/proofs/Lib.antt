@@ -7,3 +7,5 @@ pub mod Fields
 pub mod Splits
 pub mod Texts
 pub mod Requests
+pub mod Answers
+pub mod Example

@@ -103,4 +103,4 @@ module _ {b : List ℕ} {at : ℕ} (S : List ℕ) (i : ℕ) {middle : List ℕ} 
   copied-below = omega (arith, w .place, length-take-le i S (omega arith))
 
   pub copied-more : Written b at (take (i + 1) S) (set middle place (getD S i 0)) (place + 1)
-  copied-more = rw (add-one, take-suc S i 0) (written-more w copied-room (getD S i 0))
+  copied-more = rw (add-one i, take-suc S i 0) (written-more w copied-room (getD S i 0))

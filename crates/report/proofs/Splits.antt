@@ -1,6 +1,6 @@
 -- The first line taken apart at its two spaces: where its fields stand, and when it is good.
 use mathlib.Core.Path.{_≡_, refl, sym, ap, _∙_}
-use mathlib.Core.Bool.{Bool, true, false, _&&_}
+use mathlib.Core.Bool.{Bool, true, false, _&&_, true≢false}
 use mathlib.Core.List.{List}
 use Prim.Native.Nat.{ℕ, _+_, _-_, _≤_, _<_}
 use native.Mathlib.Omega.{arith}
@@ -27,6 +27,10 @@ and-fourth true true false = refl
 and-fourth true false c = refl
 and-fourth false b c = refl
 
+and-both : (a b : Bool) → (a && b) ≡ true → (a ≡ true) × (b ≡ true)
+and-both true b e = (refl, e)
+and-both false b e = absurd (true≢false (sym e))
+
 module _ (line : List ℕ) where
   pub bad-no-space : has 32 line ≡ false → goodLine line ≡ false
   unfolding goodLine
@@ -48,6 +52,12 @@ module _ (line : List ℕ) where
       → toleranceForm (toleranceField line) ≡ true → goodLine line ≡ true
   unfolding goodLine
   good-all a b c d = rw (a, b, c, d) refl
+
+  pub good-forms : goodLine line ≡ true → (methodForm (methodField line) ≡ true) × (toleranceForm (toleranceField line) ≡ true)
+  unfolding goodLine
+  good-forms e =
+      let all = and-both (has 32 line && has 32 (after 32 line) && methodForm (methodField line)) (toleranceForm (toleranceField line)) e in
+      (and-both (has 32 line && has 32 (after 32 line)) (methodForm (methodField line)) (all .0) .1, all .1)
 
 -- ---- where the first space stands
 
