@@ -1,15 +1,19 @@
 -- Laws that tie the parts together: what is refused and what is printed, and that the header repeats the first line's fields as they stood.
 use mathlib.Core.Path.{_≡_, refl, sym, ap, ap₂, _∙_}
-use mathlib.Core.Bool.{true, false, true≢false}
-use mathlib.Core.List.{List, [], _∷_, _++_}
+use mathlib.Core.Bool.{Bool, true, false, cond, true≢false}
+use mathlib.Core.List.{List, [], _∷_}
 use Prim.Native.Nat.{ℕ, _+_, _*_, _-_, _/_, _%_, _≤_, _<_}
 use native.Mathlib.Omega.{arith}
-use borrow.Author.Tests.{eq-eqb, ne-eqb}
+use lib.Dec.{lit<}
+use borrow.Author.Tests.{eq-eqb, ne-eqb, eqb-false}
 use Rattle.jumbled.specs.Match.{positions}
 use Rattle.jumbled.specs.Steps.{steps}
-use Rattle.jumbled.specs.Refusals.{given, patternTests, programTests}
+use Rattle.jumbled.specs.Refusals.{Test, given, methodTests, patternTests, programTests}
 use Rattle.report.specs.Request.{toleranceForm, spelled, methodField, toleranceField, goodLine, methodOf, toleranceOf, patternOf, textOf, tooLong, badLine, requestRefusal}
 use Rattle.report.specs.Output.{decimal, outputText, refusalText, output}
+use Rattle.report.specs.Parsing.{Asked, refusedWith, asked, meaning, part, Parses}
+use Rattle.report.specs.declared.Parsed.{Parsed}
+use Rattle.report.specs.declared.Parsed.the-variants.{TooLong, BadLine, Request}
 use Rattle.report.proofs.Decimals.{decimal-small, decimal-large}
 use Rattle.report.proofs.Fields.{digit-least, digit-most, tolerance-zero, tolerance-digits, method-tolerance, spelled-one, spelled-two}
 use Rattle.report.proofs.Splits.{good-forms}
@@ -43,6 +47,88 @@ module _ (input : List ℕ) where
       (steps (patternOf input) (toleranceOf input) (methodOf input) (textOf input) .inspections)
   unfolding output
   output-found h = rw (eq-eqb (requestRefusal input) 0 h) refl
+
+-- every refusal of the program has a number below 12
+abbrev Below : List Test → Type 0
+Below [] = Unit {0}
+Below (t ∷ ts) = (t .number < 12) × Below ts
+
+given-below : (ts : List Test) → Below ts → given ts < 12
+unfolding given
+given-below [] h = omega arith
+given-below (t ∷ ts) h = pick (t .applies) (given-below ts (h .1))
+  where
+    pick : (a : Bool) → given ts < 12 → cond a (t .number) (given ts) < 12
+    pick true rest = h .0
+    pick false rest = rest
+
+pub refusal-below : (input : List ℕ) → requestRefusal input < 12
+unfolding requestRefusal programTests patternTests methodTests
+refusal-below input = given-below _ (lit< tt, (lit< tt, (lit< tt, (lit< tt, (lit< tt, (lit< tt, (lit< tt, tt)))))))
+
+-- ---- what the answer of `parse` says of the refusal
+
+abbrev code : Bool → Bool → ℕ
+code long bad = cond long 6 (cond bad 11 0)
+
+six : (long bad : Bool) → code long bad ≡ 6 → long ≡ true
+six true bad e = refl
+six false true e = absurd (eqb-false 11 6 refl e)
+six false false e = absurd (eqb-false 0 6 refl e)
+
+eleven : (long bad : Bool) → code long bad ≡ 11 → (long ≡ false) × (bad ≡ true)
+eleven true bad e = absurd (eqb-false 6 11 refl e)
+eleven false true e = (refl, refl)
+eleven false false e = absurd (eqb-false 0 11 refl e)
+
+none : (long bad : Bool) → code long bad ≡ 0 → (long ≡ false) × (bad ≡ false)
+none true bad e = absurd (eqb-false 6 0 refl e)
+none false true e = absurd (eqb-false 11 0 refl e)
+none false false e = (refl, refl)
+
+code-asked : (long bad : Bool) (a : Asked) → a .refusal ≡ 0
+    → code long bad ≡ cond long (refusedWith 6) (cond bad (refusedWith 11) a) .refusal
+code-asked true bad a e = refl
+code-asked false true a e = refl
+code-asked false false a e = sym e
+
+module _ (input : List ℕ) where
+  -- the number that `parse` answers is that of the tests 6 and 11
+  answered : (answer : Parsed) → Parses input answer → code (tooLong input) (badLine input) ≡ meaning input answer .refusal
+  unfolding asked
+  answered answer p =
+      code-asked (tooLong input) (badLine input) _ refl ∙ sym (ap (λ (a : Asked). a .refusal) (p .values))
+
+  pub parsed-long : Parses input TooLong → requestRefusal input ≡ 6
+  parsed-long p = refusal-long input (six (tooLong input) (badLine input) (answered TooLong p))
+
+  pub parsed-bad : Parses input BadLine → requestRefusal input ≡ 11
+  parsed-bad p =
+      let tests = eleven (tooLong input) (badLine input) (answered BadLine p) in
+      refusal-bad input (tests .0) (tests .1)
+
+  pub record Requested (method k from lineEnd end : ℕ) : Type 0 where
+    pub short : tooLong input ≡ false
+    pub good : badLine input ≡ false
+    pub method-is : method ≡ methodOf input
+    pub k-is : k ≡ toleranceOf input
+    pub pattern-is : part input from lineEnd ≡ patternOf input
+    pub text-is : part input (lineEnd + 1) end ≡ textOf input
+
+  pub parsed-request : {method k from lineEnd end : ℕ} → Parses input (Request method k from lineEnd end)
+      → Requested method k from lineEnd end
+  unfolding asked
+  parsed-request {method} {k} {from} {lineEnd} {end} p =
+      let tests = none (tooLong input) (badLine input) (answered (Request method k from lineEnd end) p) in
+      let fields = rw (tests .0, tests .1) at (p .values) in
+      record {
+        short = tests .0;
+        good = tests .1;
+        method-is = ap (λ (a : Asked). a .method) fields;
+        k-is = ap (λ (a : Asked). a .k) fields;
+        pattern-is = ap (λ (a : Asked). a .pattern) fields;
+        text-is = ap (λ (a : Asked). a .text) fields;
+      }
 
 -- ---- a field that has its form is the decimal of its number
 

@@ -1,7 +1,5 @@
 -- The example of document 01, "The program", whole, its example of 11, k with a leading zero, and 6 before 11, computed from the definitions.
 use mathlib.Core.Path.{_≡_, refl}
-use mathlib.Core.List.{List, _++_}
-use Prim.Native.Nat.{ℕ}
 use lib.ListN.{replicate}
 use Rattle.jumbled.specs.Match.{cc, sum, excess, matches, select, positions}
 use Rattle.jumbled.specs.Scan.{scan, singles, backward}

@@ -9,3 +9,4 @@ pub mod Texts
 pub mod Requests
 pub mod Answers
 pub mod Example
+pub mod Room

@@ -162,7 +162,7 @@ pub fn parse(input: &[u8]) -> Parsed
 }
 
 // Copies all of source into the buffer.
-pub fn write_bytes(source: &[u8], buffer: &mut [u8], at: usize) -> usize
+fn write_bytes(source: &[u8], buffer: &mut [u8], at: usize) -> usize
     requires { ⌜ at + length (now source) ≤ length (now buffer) ⌝ }
     ensures { λ r. ⌜ Written (now (buffer .entry)) at (now (source .entry)) (now (buffer .exit)) r ⌝ }
 {
@@ -177,7 +177,7 @@ pub fn write_bytes(source: &[u8], buffer: &mut [u8], at: usize) -> usize
 }
 
 // Writes n in base ten. The digits in front of the last one are those of n / 10.
-pub fn write_decimal(n: usize, buffer: &mut [u8], at: usize) -> usize
+fn write_decimal(n: usize, buffer: &mut [u8], at: usize) -> usize
     requires { ⌜ at + length (decimal n) ≤ length (now buffer) ⌝ }
     ensures { λ r. ⌜ Written (now (buffer .entry)) at (decimal n) (now (buffer .exit)) r ⌝ }
 {
@@ -190,16 +190,6 @@ pub fn write_decimal(n: usize, buffer: &mut [u8], at: usize) -> usize
     last + 1
 }
 
-// Writes n and the newline that ends its line.
-pub fn write_line(n: usize, buffer: &mut [u8], at: usize) -> usize
-    requires { ⌜ at + length (numberLine n) ≤ length (now buffer) ⌝ }
-    ensures { λ r. ⌜ Written (now (buffer .entry)) at (numberLine n) (now (buffer .exit)) r ⌝ }
-{
-    let end = write_decimal(n, buffer, at);
-    buffer[end] = b'\n';
-    end + 1
-}
-
 // Writes a word and n.
 fn write_labeled(word: &[u8], n: usize, buffer: &mut [u8], at: usize) -> usize
     requires { ⌜ at + length (now word ++ decimal n) ≤ length (now buffer) ⌝ }
@@ -209,13 +199,14 @@ fn write_labeled(word: &[u8], n: usize, buffer: &mut [u8], at: usize) -> usize
     write_decimal(n, buffer, word_end)
 }
 
-// Writes a word, n and the newline that ends their line.
+// Writes a word, n and the newline that ends their line. The word may be empty.
 fn write_labeled_line(word: &[u8], n: usize, buffer: &mut [u8], at: usize) -> usize
     requires { ⌜ at + length (now word ++ numberLine n) ≤ length (now buffer) ⌝ }
     ensures { λ r. ⌜ Written (now (buffer .entry)) at (now (word .entry) ++ numberLine n) (now (buffer .exit)) r ⌝ }
 {
-    let word_end = write_bytes(word, buffer, at);
-    write_line(n, buffer, word_end)
+    let end = write_labeled(word, n, buffer, at);
+    buffer[end] = b'\n';
+    end + 1
 }
 
 // Writes the line of a refusal.
@@ -245,7 +236,7 @@ pub fn write_positions(list: &[u32], count: usize, buffer: &mut [u8], at: usize)
     let mut next = at;
     let mut i = 0;
     while i < count {
-        next = write_line(list[i] as usize, buffer, next);
+        next = write_labeled_line(b"", list[i] as usize, buffer, next);
         i += 1;
     }
     next

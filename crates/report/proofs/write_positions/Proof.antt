@@ -1,4 +1,5 @@
 -- `report::write_positions` meets its contract. The loop's invariant: the lines of the positions passed stand in the buffer.
+use borrow.Author.Needs.{needs}
 use mathlib.Core.Path.{_≡_}
 use mathlib.Core.List.{_++_}
 use Prim.Native.Nat.{_+_, _≤_, _-_}
@@ -12,23 +13,26 @@ use Rattle.report.proofs.write_positions.Statement.{statement}
 use Rattle.report.proofs.write_positions.Tie as tie
 
 abbrev Inv-loop : tie.InvT-loop
-Inv-loop list count buffer₀ at next₀ i₀ buffer next i =
+Inv-loop list count buffer₀ at next₀ i₀ t7 buffer next i =
     (i ≤ count) × Written buffer₀ at (positionLines (take i list)) buffer next
 
 abbrev μ-loop : tie.MeasureT-loop
-μ-loop list count buffer₀ at next₀ i₀ buffer next i = count - i
+μ-loop list count buffer₀ at next₀ i₀ t7 buffer next i = count - i
 
 loop-holds : tie.Need-loop-holds Inv-loop μ-loop
 loop-holds c = (omega arith, rw positions-none (written-none _ _))
 
-mul-write-line : tie.Need-mul-write-line Inv-loop μ-loop
-mul-write-line c = omega arith
+slice-aggregate-write-labeled-line : tie.Need-slice-aggregate-write-labeled-line Inv-loop μ-loop
+slice-aggregate-write-labeled-line c = search needs
 
-shared-slice-read-write-line : tie.Need-shared-slice-read-write-line Inv-loop μ-loop
-shared-slice-read-write-line c = omega arith
+mul-write-labeled-line : tie.Need-mul-write-labeled-line Inv-loop μ-loop
+mul-write-labeled-line c = omega arith
 
-cast-write-line : tie.Need-cast-write-line Inv-loop μ-loop
-cast-write-line c = omega (arith, c .shared-slice-known2 .given (c .before .before .loop .i))
+shared-slice-read-write-labeled-line : tie.Need-shared-slice-read-write-labeled-line Inv-loop μ-loop
+shared-slice-read-write-labeled-line c = omega arith
+
+cast-write-labeled-line : tie.Need-cast-write-labeled-line Inv-loop μ-loop
+cast-write-labeled-line c = omega (arith, c .shared-slice-known2 .given (c .before .before .before .loop .i))
 
 -- there is room for the line of the position at i
 room : (c : tie.In-loop Inv-loop μ-loop)
@@ -40,9 +44,9 @@ room c =
     let start = c .before .before .before .before in
     positions-room (start .args .list .now) (c .before .loop .i) (start .args .count) (start .args .at) (omega arith) (start .pre .0) (start .pre .1)
 
-write-line-requires : tie.Need-write-line-requires Inv-loop μ-loop
-write-line-requires c κs =
-    let turn = c .before .before in
+write-labeled-line-requires : tie.Need-write-labeled-line-requires Inv-loop μ-loop
+write-labeled-line-requires c κs =
+    let turn = c .before .before .before in
     second-fits (numberLine (getD (turn .before .before .before .before .args .list .now) (turn .before .loop .i) 0)) (turn .before .loop .inv .1) (room turn)
 
 add-i : tie.Need-add-i Inv-loop μ-loop
@@ -54,13 +58,13 @@ loop-less c = omega arith
 loop-again : tie.Need-loop-again Inv-loop μ-loop
 loop-again c =
     let line = c .before .before in
-    let turn = line .before .before .before in
+    let turn = line .before .before .before .before in
     let start = turn .before .before .before .before in
     let i = turn .before .loop .i in
     let S = start .args .list .now in (
       omega arith,
       rw (positions-more S i (omega arith))
-          (written-then (turn .before .loop .inv .1) (line .write-line .ensures)
+          (written-then (turn .before .loop .inv .1) (line .write-labeled-line .ensures)
           (first-fits (start .args .at) (positionLines (take i S)) (numberLine (getD S i 0)) (room turn))),
     )
 
@@ -86,10 +90,11 @@ write-positions-spec =
     Inv-loop
     μ-loop
     loop-holds
-    mul-write-line
-    shared-slice-read-write-line
-    cast-write-line
-    write-line-requires
+    slice-aggregate-write-labeled-line
+    mul-write-labeled-line
+    shared-slice-read-write-labeled-line
+    cast-write-labeled-line
+    write-labeled-line-requires
     add-i
     loop-less
     loop-again
