@@ -4,16 +4,16 @@ use mathlib.Core.Bool.{Bool, true, false, cond}
 use mathlib.Core.List.{List, _∷_}
 use Prim.Native.Nat.{ℕ, zero, suc, _+_, _-_, _≤_, _<_}
 use native.Mathlib.Omega.{arith}
-use lib.Dec.{eqb}
-use lib.ListN.{length, getD, take, length-take, length-drop}
+use lib.ListN.{length, getD, length-drop}
 use borrow.Author.Tests.{ltb-false}
 use Rattle.jumbled.specs.Match.{select, positions}
 use Rattle.jumbled.specs.Steps.{steps}
 use Rattle.jumbled.specs.Refusals.{programTests}
 use Rattle.jumbled.proofs.Admission.{given-none, Admitted, admitted}
-use Rattle.report.specs.Request.{after, before, lessNewline, methodOf, toleranceOf, patternOf, textOf, tooLong, badLine, requestRefusal}
+use Rattle.report.specs.Request.{after, before, methodOf, toleranceOf, patternOf, textOf, tooLong, badLine, requestRefusal}
 use Rattle.report.specs.Output.{output}
 use Rattle.report.proofs.Cuts.{after-drop}
+use Rattle.report.proofs.Texts.{less-shorter}
 use Rattle.report.proofs.Lines.{output-most}
 use Rattle.report.proofs.Answers.{output-found}
 
@@ -50,14 +50,6 @@ unfolding positions
 positions-below P k T n l = select-below _ 0 (suc (length T) - length P) n (omega arith)
 
 -- ---- the text is no longer than the input
-
-less-shorter : (U : List ℕ) → length (lessNewline U) ≤ length U
-unfolding lessNewline
-less-shorter U = pick (eqb (getD U (length U - 1) 0) 10)
-  where
-    pick : (t : Bool) → length (cond t (take (length U - 1) U) U) ≤ length U
-    pick true = omega (arith, length-take (length U - 1) U)
-    pick false = omega arith
 
 pub text-shorter : (input : List ℕ) → length (textOf input) ≤ length input
 unfolding textOf

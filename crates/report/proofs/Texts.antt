@@ -1,11 +1,13 @@
 -- Laws of the text: the rest of the input with one last newline left out.
 use mathlib.Core.Path.{_≡_, refl, sym, ap, _∙_}
+use mathlib.Core.Bool.{Bool, true, false}
 use mathlib.Core.List.{List}
 use Prim.Native.Nat.{ℕ, _+_, _-_, _≤_, _<_}
 use native.Mathlib.Omega.{arith}
-use lib.ListN.{length, getD, take, drop, length-drop, List·getD-eq-default}
+use lib.Dec.{eqb}
+use lib.ListN.{length, getD, take, drop, length-take, length-drop, List·getD-eq-default}
 use lib.Seq.{take-all, getD-drop}
-use borrow.Author.Tests.{eq-eqb, ne-eqb, eqb-false}
+use borrow.Author.Tests.{eq-eqb, ne-eqb, eqb-true, eqb-false}
 use Rattle.report.specs.Request.{lessNewline}
 use Rattle.report.specs.Parsing.{TextEnds}
 
@@ -16,6 +18,14 @@ less-kept U h = rw (ne-eqb (getD U (length U - 1) 0) 10 h) refl
 less-cut : (U : List ℕ) → getD U (length U - 1) 0 ≡ 10 → lessNewline U ≡ take (length U - 1) U
 unfolding lessNewline
 less-cut U h = rw (eq-eqb (getD U (length U - 1) 0) 10 h) refl
+
+pub less-shorter : (U : List ℕ) → length (lessNewline U) ≤ length U
+less-shorter U = at (eqb (getD U (length U - 1) 0) 10) refl
+  where
+    at : (t : Bool) → eqb (getD U (length U - 1) 0) 10 ≡ t → length (lessNewline U) ≤ length U
+    at true e =
+        omega (arith, ap length (less-cut U (eqb-true (getD U (length U - 1) 0) 10 e)), length-take (length U - 1) U)
+    at false e = omega (arith, ap length (less-kept U (eqb-false (getD U (length U - 1) 0) 10 e)))
 
 module _ (U : List ℕ) (start : ℕ) where
   -- the last byte from `start` on is the last byte
