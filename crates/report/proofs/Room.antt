@@ -1,0 +1,103 @@
+-- How much the program prints: a buffer of 98,416 bytes has room for the output of every input that is not refused.
+use mathlib.Core.Path.{_≡_, ap}
+use mathlib.Core.Bool.{Bool, true, false, cond}
+use mathlib.Core.List.{List, _∷_}
+use Prim.Native.Nat.{ℕ, zero, suc, _+_, _-_, _≤_, _<_}
+use native.Mathlib.Omega.{arith}
+use lib.ListN.{length, getD, length-drop}
+use borrow.Author.Tests.{ltb-false}
+use Rattle.jumbled.specs.Match.{select, positions}
+use Rattle.jumbled.specs.Steps.{steps}
+use Rattle.jumbled.specs.Refusals.{programTests}
+use Rattle.jumbled.proofs.Admission.{given-none, Admitted, admitted}
+use Rattle.report.specs.Request.{after, before, methodOf, toleranceOf, patternOf, textOf, tooLong, badLine, requestRefusal}
+use Rattle.report.specs.Output.{output}
+use Rattle.report.proofs.Cuts.{after-drop}
+use Rattle.report.proofs.Texts.{less-shorter}
+use Rattle.report.proofs.Lines.{output-most}
+use Rattle.report.proofs.Answers.{output-found}
+
+-- ---- the positions are few, and small
+
+module _ (test : ℕ → Bool) where
+  select-few : (s count : ℕ) → length (select test s count) ≤ count
+  unfolding select
+  select-few s zero = omega arith
+  select-few s (suc count) = pick (test s) (select-few (suc s) count)
+    where
+      pick : (t : Bool) → length (select test (suc s) count) ≤ count
+          → length (cond t (s ∷ select test (suc s) count) (select test (suc s) count)) ≤ suc count
+      pick true h = omega arith
+      pick false h = omega arith
+
+  select-below : (s count n : ℕ) → s + count < n → (i : ℕ) → getD (select test s count) i 0 < n
+  unfolding select
+  select-below s zero n l i = omega arith
+  select-below s (suc count) n l i = pick (test s) (select-below (suc s) count n (omega arith)) i
+    where
+      pick : (t : Bool) → ((j : ℕ) → getD (select test (suc s) count) j 0 < n)
+          → (j : ℕ) → getD (cond t (s ∷ select test (suc s) count) (select test (suc s) count)) j 0 < n
+      pick true h zero = omega arith
+      pick true h (suc j) = h j
+      pick false h j = h j
+
+pub positions-few : (P : List ℕ) (k : ℕ) (T : List ℕ) → length (positions P k T) ≤ suc (length T) - length P
+unfolding positions
+positions-few P k T = select-few _ 0 (suc (length T) - length P)
+
+pub positions-below : (P : List ℕ) (k : ℕ) (T : List ℕ) (n : ℕ) → suc (length T) < n → (i : ℕ) → getD (positions P k T) i 0 < n
+unfolding positions
+positions-below P k T n l = select-below _ 0 (suc (length T) - length P) n (omega arith)
+
+-- ---- the text is no longer than the input
+
+pub text-shorter : (input : List ℕ) → length (textOf input) ≤ length input
+unfolding textOf
+text-shorter input =
+    omega (
+      arith,
+      less-shorter (after 10 input),
+      ap length (after-drop 10 input),
+      length-drop (length (before 10 input) + 1) input,
+    )
+
+-- ---- what is not refused
+
+pub record Taken (input : List ℕ) : Type 0 where
+  pub short : length input ≤ 16384
+  pub good : badLine input ≡ false
+  pub request : Admitted (patternOf input) (toleranceOf input) (methodOf input)
+
+pub taken : (input : List ℕ) → requestRefusal input ≡ 0 → Taken input
+unfolding requestRefusal programTests tooLong
+taken input e =
+    let sixth = given-none 5 _ _ e in
+    let eleventh = given-none 10 _ _ (sixth .1) in
+    record {
+      short = ltb-false 16384 (length input) (sixth .0);
+      good = eleventh .0;
+      request = admitted (patternOf input) (toleranceOf input) (methodOf input) (eleventh .1);
+    }
+
+pub output-room : (input : List ℕ) → requestRefusal input ≡ 0
+    → steps (patternOf input) (toleranceOf input) (methodOf input) (textOf input) .inspections < 4294967296
+    → length (output input) ≤ 98416
+output-room input e looks =
+    let t = taken input e in
+    let P = patternOf input in
+    let k = toleranceOf input in
+    let method = methodOf input in
+    let T = textOf input in
+    let some = t .request .some in
+    let short = t .request .short in
+    let within = t .request .within in
+    let most = t .request .taken .most in
+    let few = positions-few P k T in
+    let text = text-shorter input in
+    let fits = t .short in
+    omega (
+      arith,
+      ap length (output-found input e),
+      output-most P k method (positions P k T) (steps P k method T .inspections) short (omega arith) (omega arith)
+          (positions-below P k T 100000 (omega arith)) (omega arith) looks,
+    )
