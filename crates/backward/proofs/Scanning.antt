@@ -185,12 +185,9 @@ module _ {P : List ℕ} {M : Method} {tables : Tables} {T : List ℕ} {stretch :
           (reading-stop (w .given .lawful) (window-bytes (length P) T s₀ (w .given .text)) (inner .reading) (low - s₀) (omega (arith, taken .lower))
           (omega (arith, taken .near, taken .here, inner .here)) (taken .group) t)))
 
-    -- what is read lies in the text, and the looks are far from 2^64
+    -- what is read lies in the text
     pub inner-upto : p ≤ length T
     inner-upto = omega (arith, inner .upto, window-upto)
-
-    pub inner-looks : looks < 2 ^ 40
-    inner-looks = omega (arith, inner .looked, inner .here, w .going .counted, w .given .fitting .numbered, w .given .fitting .short)
 
     -- the byte before p is added
     pub first-added : s < p → word + getD (tables .units) (getD T (p - 1) 0) 0 ≡ wordOf P (M .layout) (readFrom (length P) T s₀ (p - 1))
