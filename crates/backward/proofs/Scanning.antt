@@ -35,7 +35,7 @@ window-bytes m T s h = bytes-take m (drop s T) (bytes-drop s T h)
 window-at : (m : ℕ) (T : List ℕ) (s d : ℕ) → d < m → getD (window m T s) d 0 ≡ getD T (s + d) 0
 window-at m T s d h = getD-take m (drop s T) d 0 h ∙ getD-drop s T d 0
 
--- What a loop is given, all of which stays as it is
+-- What a loop has from its arguments and its method
 pub record Given (P : List ℕ) (M : Method) (tables : Tables) (T : List ℕ) (stretch : Stretch) (before : List ℕ) : Type 0 where
   pub lawful : Lawful P M
   pub pattern : Bytes P
@@ -44,13 +44,13 @@ pub record Given (P : List ℕ) (M : Method) (tables : Tables) (T : List ℕ) (s
   pub packed : Packed P (M .layout) tables
   pub fits : bits P (M .layout) ≤ 64
 
--- where the windows before s₀ are done, and there is one at s₀
+-- where the windows before s₀ are done, and the one at s₀ is to be scanned
 pub record Window (P : List ℕ) (M : Method) (tables : Tables) (T : List ℕ) (stretch : Stretch) (before : List ℕ) (s₀ at looks₀ : ℕ) (after : List ℕ) : Type 0 where
   pub given : Given P M tables T stretch before
   pub going : Going (scannedBy P M) (length P) T stretch before s₀ at looks₀ after
   pub inside : s₀ < stretch .end
 
--- The window at s₀ is read down to p, and the looks made since then are counted
+-- What holds where the test of the leftward loop is reached: the window at s₀ is read down to p, and each byte read is a look
 pub record Inner (P : List ℕ) (M : Method) (T : List ℕ) (s₀ looks₀ s looks word p : ℕ) : Type 0 where
   pub same : s ≡ s₀
   pub here : s₀ ≤ p
@@ -58,7 +58,7 @@ pub record Inner (P : List ℕ) (M : Method) (T : List ℕ) (s₀ looks₀ s loo
   pub reading : Reading P M (window (length P) T s₀) (p - s₀) word
   pub looked : looks + p ≡ looks₀ + (s₀ + length P)
 
--- A step has taken the bytes from `low` up to the one before p
+-- After the bytes of a step were added, from the one before p down to that at `low`
 pub record Taken (P : List ℕ) (M : Method) (T : List ℕ) (s₀ p looks low next-word next-looks : ℕ) : Type 0 where
   pub here : s₀ ≤ low
   pub lower : low < p
@@ -175,7 +175,8 @@ module _ {P : List ℕ} {M : Method} {tables : Tables} {T : List ℕ} {stretch :
       -- it does: the search goes on at the window start after the position of the stop
       pub inner-stop : M .stop (readFrom (length P) T s₀ low) ≡ true → Going (scannedBy P M) (length P) T stretch before (low + 1) at next-looks after
       inner-stop t =
-          let read : length (readFrom (length P) T s₀ low) ≡ length P - (low - s₀) = length-drop (low - s₀) (window (length P) T s₀) ∙ ap (λ (n : ℕ). n - (low - s₀)) (window-whole (length P) T s₀ window-upto) in
+          let read : length (readFrom (length P) T s₀ low) ≡ length P - (low - s₀)
+          = length-drop (low - s₀) (window (length P) T s₀) ∙ ap (λ (n : ℕ). n - (low - s₀)) (window-whole (length P) T s₀ window-upto) in
           let offset : length P - (length P - (low - s₀)) ≡ low - s₀ = omega (arith, taken .lower, inner .upto) in
           let next : s₀ + (low - s₀) + 1 ≡ low + 1 = omega (arith, taken .here) in
           let counted : looks₀ + (length P - (low - s₀)) ≡ next-looks = omega (arith, taken .looked, inner .looked, taken .here, taken .lower, inner .upto) in
@@ -185,12 +186,9 @@ module _ {P : List ℕ} {M : Method} {tables : Tables} {T : List ℕ} {stretch :
           (reading-stop (w .given .lawful) (window-bytes (length P) T s₀ (w .given .text)) (inner .reading) (low - s₀) (omega (arith, taken .lower))
           (omega (arith, taken .near, taken .here, inner .here)) (taken .group) t)))
 
-    -- what is read lies in the text, and the looks are far from 2^64
+    -- what is read lies in the text
     pub inner-upto : p ≤ length T
     inner-upto = omega (arith, inner .upto, window-upto)
-
-    pub inner-looks : looks < 2 ^ 40
-    inner-looks = omega (arith, inner .looked, inner .here, w .going .counted, w .given .fitting .numbered, w .given .fitting .short)
 
     -- the byte before p is added
     pub first-added : s < p → word + getD (tables .units) (getD T (p - 1) 0) 0 ≡ wordOf P (M .layout) (readFrom (length P) T s₀ (p - 1))

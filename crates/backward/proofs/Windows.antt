@@ -59,7 +59,8 @@ module _ {scanned : List ℕ → Scanned} {m : ℕ} {T : List ℕ} {stretch : St
 
   module _ (inside : s < stretch .end) where
     -- the scan w of the window at s, and then the windows from where it goes on
-    next : (w : Scanned) → scanned (window m T s) ≡ w → (next-s : ℕ) → next-s ≡ suc s + w .offset → from scanned m T stretch s ≡ share (w .listed) s (w .inspections) then from scanned m T stretch next-s
+    next : (w : Scanned) → scanned (window m T s) ≡ w → (next-s : ℕ) → next-s ≡ suc s + w .offset
+        → from scanned m T stretch s ≡ share (w .listed) s (w .inspections) then from scanned m T stretch next-s
     next w e next-s to =
         let left : stretch .end - s ≡ suc (stretch .end - suc s) = omega arith in
         let past : stretch .end - suc s - w .offset ≡ stretch .end - next-s = omega arith in

@@ -6,7 +6,8 @@ use crate::position;
 use listing::Stretch;
 use packed::Tables;
 
-// Method 4: one byte a step, an error counted where the byte's own top bit is set after it, until the errors pass k.
+// Method 4, approximate backward: document 01, "The five methods". As method 2, but a byte whose own top bit is set after it is an
+// error, and the scan stops where the errors pass k.
 pub fn abam(
     pattern: &[u8],
     k: usize,

@@ -6,7 +6,9 @@ use crate::position;
 use listing::Stretch;
 use packed::Tables;
 
-// Method 2: one byte a step, until a field's top bit is set.
+// Method 2, packed backward: document 01, "The five methods". A window is read leftwards, one byte a step, and each byte adds 1 to
+// its field of one word. A top bit that is set at p tells that the bytes from p on hold one too many. Every window that starts
+// after s and up to p holds these bytes too, so the search goes on at p + 1.
 pub fn bam(
     pattern: &[u8],
     tables: Tables,

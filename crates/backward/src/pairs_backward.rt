@@ -6,7 +6,9 @@ use crate::position;
 use listing::Stretch;
 use packed::Tables;
 
-// Method 3: two bytes a step, the leftmost alone where one is left, until a field's top bit is set.
+// Method 3, pairs backward: document 01, "The five methods". As method 2, but two bytes a step, the leftmost alone where one is
+// left, and a test after each step. Which of a pair's two bytes is too many is not asked, so after a stop whose left byte is at p
+// the window at p + 1 is still to be searched.
 pub fn bam2(
     pattern: &[u8],
     tables: Tables,

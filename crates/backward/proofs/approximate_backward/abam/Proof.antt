@@ -10,7 +10,7 @@ use Rattle.jumbled.specs.Fields.{abamLayout, errors as errorsOf}
 use Rattle.jumbled.specs.Steps.{abamScan}
 use Rattle.backward.proofs.Windows.{Going, going-first, going-same-length, going-end}
 use Rattle.backward.proofs.Reading.{scannedBy}
-use Rattle.backward.proofs.Scanning.{readFrom, Given, Window, Taken, window-upto, window-place, inner-first, inner-upto, inner-looks, single-group, single-taken, taken-word, inner-on, inner-stop, inner-end}
+use Rattle.backward.proofs.Scanning.{readFrom, Given, Window, Taken, window-place, inner-first, inner-upto, single-group, single-taken, taken-word, inner-on, inner-stop, inner-end}
 use Rattle.backward.proofs.Errors.{Counting, counting-few, error-first, error-found, error-none}
 use Rattle.backward.proofs.Methods.{abamMethod, abam-given}
 use Rattle.backward.proofs.approximate_backward.abam.Statement.{statement}
@@ -51,7 +51,7 @@ windows-holds : tie.Need-windows-holds Inv-loop μ-loop Inv-windows μ-windows
 windows-holds c = going-first _ _ _ _ _ (given c .fitting .ordered)
 
 add-p : tie.Need-add-p Inv-loop μ-loop Inv-windows μ-windows
-add-p c = omega (arith, window-upto (window c))
+add-p c = omega arith
 
 loop-holds : tie.Need-loop-holds Inv-loop μ-loop Inv-windows μ-windows
 loop-holds c = record { inner = inner-first (window c); counted = error-first (window c) }
@@ -75,7 +75,7 @@ add-word : tie.Need-add-word Inv-loop μ-loop Inv-windows μ-windows
 add-word c = record { fits = taken-word (window (c .before .before .before .before)) (c .before .before .before .loop .inv .inner) (taken (c .before .before)) }
 
 add-looks : tie.Need-add-looks Inv-loop μ-loop Inv-windows μ-windows
-add-looks c = omega (arith, inner-looks (window (c .before .before .before .before)) (c .before .before .before .loop .inv .inner))
+add-looks c = omega arith
 
 mul-if2 : tie.Need-mul-if2 Inv-loop μ-loop Inv-windows μ-windows
 mul-if2 c = omega (arith, c .before .shared-slice-known3 .given (c .before .before .before .loop .p - 1))
@@ -97,10 +97,10 @@ add-errors : tie.Need-add-errors Inv-loop μ-loop Inv-windows μ-windows
 add-errors c = omega (arith, counting-few (c .before .before .before .before .before .loop .inv), window (c .before .before .before .before .before .before) .given .fitting .short)
 
 add-s : tie.Need-add-s Inv-loop μ-loop Inv-windows μ-windows
-add-s c = omega (arith, inner-upto (window (c .before .before .before .before .before .before .before)) (c .before .before .before .before .before .before .loop .inv .inner))
+add-s c = omega arith
 
 windows-less : tie.Need-windows-less Inv-loop μ-loop Inv-windows μ-windows
-windows-less c = omega (arith, taken (c .before .before .before .before .before) .here, c .before .before .before .before .before .before .before .if1 .taken)
+windows-less c = omega arith
 
 windows-again : tie.Need-windows-again Inv-loop μ-loop Inv-windows μ-windows
 windows-again c =
@@ -121,22 +121,22 @@ loop-again c =
     }
 
 position-requires : tie.Need-position-requires Inv-loop μ-loop Inv-windows μ-windows
-position-requires c κs = omega (arith, c .before .loop .inv .inner .same, window (c .before .before) .given .fitting .numbered, window (c .before .before) .inside)
+position-requires c κs = omega arith
 
 mul-list : tie.Need-mul-list Inv-loop μ-loop Inv-windows μ-windows
-mul-list c = omega (arith, window-place (window (c .before .before .before)))
+mul-list c = omega arith
 
 slice-write-list : tie.Need-slice-write-list Inv-loop μ-loop Inv-windows μ-windows
 slice-write-list c = window-place (window (c .before .before .before))
 
 add-at : tie.Need-add-at Inv-loop μ-loop Inv-windows μ-windows
-add-at c = omega (arith, window-place (window (c .before .before .before)))
+add-at c = omega arith
 
 add-s-2 : tie.Need-add-s-2 Inv-loop μ-loop Inv-windows μ-windows
-add-s-2 c = omega (arith, c .before .before .loop .inv .inner .same, window (c .before .before .before) .given .fitting .numbered, window (c .before .before .before) .inside)
+add-s-2 c = omega arith
 
 windows-less-2 : tie.Need-windows-less-2 Inv-loop μ-loop Inv-windows μ-windows
-windows-less-2 c = omega (arith, c .before .before .loop .inv .inner .same, window (c .before .before .before) .inside)
+windows-less-2 c = omega arith
 
 windows-again-2 : tie.Need-windows-again-2 Inv-loop μ-loop Inv-windows μ-windows
 windows-again-2 c = rw (c .position .ensures) (inner-end (window (c .before .before .before)) (c .before .before .loop .inv .inner) (c .before .loop-test .left))

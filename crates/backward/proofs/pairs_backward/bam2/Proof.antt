@@ -7,7 +7,7 @@ use lib.ListN.{length}
 use Rattle.jumbled.specs.Steps.{bam2Scan}
 use Rattle.backward.proofs.Windows.{Going, going-first, going-same-length, going-end}
 use Rattle.backward.proofs.Reading.{scannedBy}
-use Rattle.backward.proofs.Scanning.{Given, Window, Inner, Taken, window-upto, window-place, inner-first, inner-upto, inner-looks, inner-word, first-added, pair-group, alone-group, single-taken, pair-taken, taken-word, tops-set, tops-clear, inner-on, inner-stop, inner-end}
+use Rattle.backward.proofs.Scanning.{Given, Window, Inner, Taken, window-place, inner-first, inner-upto, inner-word, first-added, pair-group, alone-group, single-taken, pair-taken, taken-word, tops-set, tops-clear, inner-on, inner-stop, inner-end}
 use Rattle.backward.proofs.Methods.{bam2Method, bam2-given}
 use Rattle.backward.proofs.pairs_backward.bam2.Statement.{statement}
 use Rattle.backward.proofs.pairs_backward.bam2.Tie as tie
@@ -51,7 +51,7 @@ windows-holds : tie.Need-windows-holds Inv-loop μ-loop Inv-windows μ-windows
 windows-holds c = going-first _ _ _ _ _ (given c .fitting .ordered)
 
 add-p : tie.Need-add-p Inv-loop μ-loop Inv-windows μ-windows
-add-p c = omega (arith, window-upto (window c))
+add-p c = omega arith
 
 loop-holds : tie.Need-loop-holds Inv-loop μ-loop Inv-windows μ-windows
 loop-holds c = inner-first (window c)
@@ -78,10 +78,10 @@ add-word c =
     record { fits = inner-word w i (c .before .before .before .loop .p - 1) _ (omega arith) (omega arith) (first-added w i (c .before .before .loop-test .taken)) }
 
 add-looks : tie.Need-add-looks Inv-loop μ-loop Inv-windows μ-windows
-add-looks c = omega (arith, inner-looks (window (c .before .before .before .before)) (c .before .before .before .loop .inv))
+add-looks c = omega arith
 
 sub-p-2 : tie.Need-sub-p-2 Inv-loop μ-loop Inv-windows μ-windows
-sub-p-2 c = omega (arith, c .if2 .taken)
+sub-p-2 c = omega arith
 
 shared-slice-read-left : tie.Need-shared-slice-read-left Inv-loop μ-loop Inv-windows μ-windows
 shared-slice-read-left c = omega (arith, inner-upto (window (c .before .before .before .before .before .before)) (c .before .before .before .before .before .loop .inv), c .before .if2 .taken)
@@ -102,7 +102,7 @@ add-word-2 c =
     record { fits = taken-word w i (pair-taken w i (c .before .before .if2 .taken) (omega arith) (pair-group w i (c .before .before .if2 .taken))) }
 
 add-looks-2 : tie.Need-add-looks-2 Inv-loop μ-loop Inv-windows μ-windows
-add-looks-2 c = omega (arith, inner-looks (window (c .before .before .before .before .before .before .before)) (c .before .before .before .before .before .before .loop .inv))
+add-looks-2 c = omega arith
 
 add-s : tie.Need-add-s Inv-loop μ-loop Inv-windows μ-windows
 add-s c =
@@ -129,22 +129,22 @@ loop-again c =
     inner-on w i t (tops-clear w i t (c .if3 .left))
 
 position-requires : tie.Need-position-requires Inv-loop μ-loop Inv-windows μ-windows
-position-requires c κs = omega (arith, c .before .loop .inv .same, window (c .before .before) .given .fitting .numbered, window (c .before .before) .inside)
+position-requires c κs = omega arith
 
 mul-list : tie.Need-mul-list Inv-loop μ-loop Inv-windows μ-windows
-mul-list c = omega (arith, window-place (window (c .before .before .before)))
+mul-list c = omega arith
 
 slice-write-list : tie.Need-slice-write-list Inv-loop μ-loop Inv-windows μ-windows
 slice-write-list c = window-place (window (c .before .before .before))
 
 add-at : tie.Need-add-at Inv-loop μ-loop Inv-windows μ-windows
-add-at c = omega (arith, window-place (window (c .before .before .before)))
+add-at c = omega arith
 
 add-s-2 : tie.Need-add-s-2 Inv-loop μ-loop Inv-windows μ-windows
-add-s-2 c = omega (arith, c .before .before .loop .inv .same, window (c .before .before .before) .given .fitting .numbered, window (c .before .before .before) .inside)
+add-s-2 c = omega arith
 
 windows-less-2 : tie.Need-windows-less-2 Inv-loop μ-loop Inv-windows μ-windows
-windows-less-2 c = omega (arith, c .before .before .loop .inv .same, window (c .before .before .before) .inside)
+windows-less-2 c = omega arith
 
 windows-again-2 : tie.Need-windows-again-2 Inv-loop μ-loop Inv-windows μ-windows
 windows-again-2 c = rw (c .position .ensures) (inner-end (window (c .before .before .before)) (c .before .before .loop .inv) (c .before .loop-test .left))
