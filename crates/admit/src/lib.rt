@@ -8,13 +8,19 @@ ghost use lib.ListN.{length};
 ghost use Rattle.jumbled.specs.Refusals.{given, methodTests, patternTests};
 ghost use Rattle.admit.specs.Numbers.{admissionNumber};
 
-// Why a call is refused; specs/ gives each case its number.
+// Why a call is refused, in the order of document 01's table; specs/ gives each case its number.
 pub enum Refusal {
     PatternLength,
     ToleranceTooLarge,
     UnknownMethod,
     ToleranceNotTaken,
     FieldsTooWide,
+    TextTooLong,
+    TooFewPlaces,
+    TotalTooLarge,
+    Malformed,
+    BufferTooShort,
+    BadRequest,
 }
 
 pub enum Admission {

@@ -1,11 +1,11 @@
 -- What it says that none of the tests 1 to 5 applies.
 use mathlib.Core.Path.{_≡_, refl, sym, _∙_}
-use mathlib.Core.Bool.{Bool, true, false, _&&_, _||_, true≢false}
-use mathlib.Core.List.{List, _∷_}
+use mathlib.Core.Bool.{Bool, true, false, cond, _&&_, _||_, true≢false}
+use mathlib.Core.List.{List, [], _∷_, _++_}
 use Prim.Native.Nat.{ℕ, suc, _≤_, _<_}
 use native.Mathlib.Nat.{suc-ne-zero}
 use native.Mathlib.Omega.{arith}
-use lib.Dec.{leb, ltb, eqb}
+use lib.Dec.{leb, ltb, eqb, eqb·suc-zero}
 use lib.ListN.{length}
 use borrow.Author.Tests.{leb-true, leb-false, ltb-false, eqb-false, not-false}
 use Rattle.jumbled.specs.Fields.{layoutOf, bits}
@@ -16,6 +16,28 @@ pub given-none : (n : ℕ) (b : Bool) (ts : List Test) → given (test (suc n) b
 unfolding given
 given-none n true ts e = absurd (suc-ne-zero n e)
 given-none n false ts e = (refl, e)
+
+-- ---- one list of tests after another
+
+-- tests whose numbers are not 0
+pub data Numbered : List Test → Type 0 where
+  none : Numbered []
+  next : {n : ℕ} {b : Bool} {ts : List Test} → Numbered ts → Numbered (test (suc n) b ∷ ts)
+
+-- the first list's number, or the second's where nothing of the first is given
+pub given-append : (ts us : List Test) → Numbered ts → given (ts ++ us) ≡ cond (eqb (given ts) 0) (given us) (given ts)
+unfolding given
+given-append ts us none = refl
+given-append ts us (next {n = n} {b = true} more) = rw (eqb·suc-zero n) refl
+given-append ts us (next {n = n} {b = false} {ts = rest} more) = given-append rest us more
+
+pub numbered-append : (ts us : List Test) → Numbered ts → Numbered us → Numbered (ts ++ us)
+numbered-append ts us none later = later
+numbered-append ts us (next {ts = rest} more) later = next (numbered-append rest us more later)
+
+pub pattern-numbered : (P : List ℕ) (k method : ℕ) → Numbered (patternTests P k method)
+unfolding patternTests methodTests
+pattern-numbered P k method = next (next (next (next (next none))))
 
 or-false : (a b : Bool) → (a || b) ≡ false → (a ≡ false) × (b ≡ false)
 or-false true b e = absurd (true≢false e)
@@ -75,3 +97,8 @@ admitted P k method e =
   where
     positive : (length P ≡ 0 → ⊥) → 0 < length P
     positive h = omega arith
+
+-- then nothing of 3 to 5 is given
+pub method-given : (P : List ℕ) (k method : ℕ) → given (patternTests P k method) ≡ 0 → given (methodTests P k method) ≡ 0
+unfolding patternTests
+method-given P k method e = given-none 1 _ _ (given-none 0 _ _ e .1) .1

@@ -1,16 +1,15 @@
 -- A backward method over a tail followed by a chunk: the windows of the seam, and then those of the chunk that its last scan did not pass over.
-use mathlib.Core.Path.{_≡_, refl, sym, ap, ap₂, _∙_}
+use mathlib.Core.Path.{_≡_, ap, _∙_}
 use mathlib.Core.List.{List, _++_}
-use Prim.Native.Nat.{ℕ, zero, suc, _+_, _-_, _*_, _^_, _≤_, _<_}
-use native.Mathlib.Nat.{sub-zero, sub-eq-zero-of-le}
+use Prim.Native.Nat.{ℕ, _+_, _-_, _^_, _≤_, _<_}
+use native.Mathlib.Nat.{sub-zero}
 use native.Mathlib.Omega.{arith}
 use lib.ListN.{length, take}
-use Rattle.jumbled.specs.Scan.{Result, nothing, Scanned, backward, standing}
+use Rattle.jumbled.specs.Scan.{Result, Scanned, backward, standing}
 use Rattle.jumbled.proofs.Cuts.{_then_, moved, backward-count, backward-most}
 use Rattle.listing.specs.declared.Stretch.{Stretch}
 use Rattle.listing.specs.Loops.{Fitting, Listed}
 use Rattle.listing.proofs.Listing.{then-nothing, listed-length}
-use Rattle.pieces.specs.declared.Done.{Done}
 use Rattle.pieces.specs.declared.Split.{Split}
 use Rattle.pieces.specs.Joined.{Parted, Joinable, Found, backwardOver}
 use Rattle.pieces.proofs.Joins.{backward-joined, found-one, found-two}

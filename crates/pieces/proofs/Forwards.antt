@@ -1,14 +1,14 @@
 -- A forward method over a tail followed by a chunk: the windows of the seam, its first bytes taken before, and then those of the chunk.
-use mathlib.Core.Path.{_≡_, refl, sym, ap, ap₂, _∙_}
+use mathlib.Core.Path.{_≡_, refl, ap, _∙_}
 use mathlib.Core.Bool.{Bool, true, false, cond}
-use mathlib.Core.List.{List, [], _++_, append-nil}
-use Prim.Native.Nat.{ℕ, zero, suc, _+_, _-_, _*_, _^_, _≤_, _<_}
+use mathlib.Core.List.{List, _++_}
+use Prim.Native.Nat.{ℕ, _+_, _-_, _^_, _≤_, _<_}
 use native.Mathlib.Nat.{le-refl, sub-zero}
 use native.Mathlib.Omega.{arith}
 use lib.Dec.{eqb}
 use lib.ListN.{length, take, drop}
 use lib.Seq.{drop-append-seam, take-take}
-use Rattle.jumbled.specs.Match.{matches, starts}
+use Rattle.jumbled.specs.Match.{matches}
 use Rattle.jumbled.specs.Heap.{heapSum, exact}
 use Rattle.jumbled.specs.Steps.{hcamJudged}
 use Rattle.jumbled.specs.Scan.{Result, Judged, unverified, forward}
@@ -17,7 +17,6 @@ use Rattle.listing.specs.declared.Stretch.{Stretch}
 use Rattle.listing.specs.Loops.{Fitting, Listed}
 use Rattle.listing.proofs.Listing.{then-nothing, listed-length}
 use Rattle.forward.specs.Windows.{lead}
-use Rattle.pieces.specs.declared.Done.{Done}
 use Rattle.pieces.specs.declared.Split.{Split}
 use Rattle.pieces.specs.Joined.{Parted, Joinable, Found, primed, forwardOver}
 use Rattle.pieces.proofs.Joins.{forward-joined, forward-none, found-one, found-two}

@@ -1,18 +1,16 @@
 -- A tail followed by a chunk is searched as the seam, for the windows that start in the tail, and then as the chunk.
 use mathlib.Core.Path.{_≡_, refl, sym, ap, ap₂, _∙_}
 use mathlib.Core.List.{List, [], _∷_, _++_, map}
-use Prim.Native.Nat.{ℕ, zero, suc, _+_, _-_, _≤_, _<_, min}
+use Prim.Native.Nat.{ℕ, zero, suc, _+_, _-_, _≤_, _<_}
 use native.Mathlib.Nat.{add-zero, zero-add, add-assoc, zero-sub}
 use native.Mathlib.Omega.{arith}
-use lib.ListN.{length, take, drop, length-append, length-take, length-drop}
-use lib.Seq.{drop-append-le, drop-append-add, drop-append-seam, take-take}
+use lib.ListN.{length, take, drop, length-append, length-drop}
+use lib.Seq.{drop-append-le, drop-append-add, take-take}
 use Rattle.jumbled.specs.Match.{window, starts}
 use Rattle.jumbled.specs.Scan.{Result, nothing, Scanned, backward, standing, Judged, forward}
 use Rattle.listing.specs.Placed.{placed, shifted}
 use Rattle.listing.specs.Loops.{Listed}
-use Rattle.listing.specs.declared.Stretch.{Stretch}
 use Rattle.listing.proofs.Placing.{placed-nil, placed-placed, length-shifted, shifted-append, shifted-shifted}
-use Rattle.pieces.specs.declared.Done.{Done}
 use Rattle.pieces.specs.Joined.{Found, primed}
 use Rattle.jumbled.proofs.Cuts.{_then_, moved, Agree, backward-cut, backward-skip, backward-agree, standing-agree, forward-cut, forward-primed, forward-agree}
 

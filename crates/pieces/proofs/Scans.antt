@@ -4,11 +4,9 @@ use mathlib.Core.List.{List}
 use mathlib.Core.Logic.{⊎-elim}
 use Prim.Native.Nat.{ℕ, _≤_, _<_}
 use native.Mathlib.Omega.{arith}
-use lib.Dec.{eqb}
 use lib.ListN.{length}
 use borrow.Author.Tests.{eq-eqb, ne-eqb}
 use Rattle.jumbled.specs.Fields.{Layout, layoutOf, bits}
-use Rattle.jumbled.specs.Scan.{Scanned}
 use Rattle.jumbled.specs.Steps.{bamScan, bam2Scan, abamScan}
 use Rattle.jumbled.proofs.Sums.{below-or-not}
 use Rattle.jumbled.proofs.Methods.{bam-most, bam2-most, abam-most}

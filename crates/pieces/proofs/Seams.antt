@@ -1,13 +1,13 @@
 -- What a forward loop lists of the seam once its first bytes were taken.
-use mathlib.Core.Path.{_≡_, refl, sym, ap, ap₂, _∙_}
+use mathlib.Core.Path.{_≡_, ap₂}
 use mathlib.Core.List.{List}
-use Prim.Native.Nat.{ℕ, _+_, _-_, _*_, _^_, _≤_, _<_}
+use Prim.Native.Nat.{ℕ, _+_, _-_, _^_, _≤_, _<_}
 use native.Mathlib.Omega.{arith}
 use lib.ListN.{length}
-use Rattle.jumbled.specs.Scan.{Result, Judged, forward}
+use Rattle.jumbled.specs.Scan.{Judged, forward}
 use Rattle.jumbled.proofs.Cuts.{forward-most}
 use Rattle.listing.specs.declared.Stretch.{Stretch}
-use Rattle.listing.specs.Loops.{Fitting, Listed}
+use Rattle.listing.specs.Loops.{Listed}
 use Rattle.pieces.specs.Joined.{primed, Startable}
 
 module _ (judged : List ℕ → Judged) (P T : List ℕ) (stretch : Stretch) (list : List ℕ) (start : Startable P T stretch list) where

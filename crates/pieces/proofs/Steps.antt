@@ -1,13 +1,10 @@
 -- The steps of a method by its number, as the drivers that the functions here run.
 use mathlib.Core.Path.{_≡_, refl}
 use mathlib.Core.List.{List}
-use mathlib.Core.Logic.{⊎-elim}
-use Prim.Native.Nat.{ℕ, zero, suc, _≤_, _<_}
+use Prim.Native.Nat.{ℕ, zero, suc, _≤_}
 use native.Mathlib.Nat.{not-suc-le-zero}
 use native.Mathlib.Omega.{arith}
 use lib.ListN.{length}
-use borrow.Author.Tests.{ne-eqb}
-use Rattle.jumbled.specs.Scan.{Result}
 use Rattle.jumbled.specs.Steps.{countJudged, hcamJudged, steps}
 use Rattle.pieces.specs.Joined.{forwardOver, backwardOver}
 use Rattle.pieces.specs.Scans.{scanOf}

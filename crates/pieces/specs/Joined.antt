@@ -1,6 +1,6 @@
 -- What a search of a tail followed by a chunk asks of its arguments, and what it says it did: document 01, "A search and its calls", Feed.
 use mathlib.Core.Path.{_≡_}
-use mathlib.Core.List.{List, _++_}
+use mathlib.Core.List.{List}
 use Prim.Native.Nat.{ℕ, suc, _+_, _-_, _^_, _≤_, _<_, min}
 use lib.ListN.{length}
 use Rattle.jumbled.specs.Match.{starts}

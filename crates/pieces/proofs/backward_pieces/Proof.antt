@@ -1,15 +1,14 @@
 -- `pieces::backward_pieces` meets its contract.
-use mathlib.Core.Path.{_≡_, refl, sym, ap, _∙_}
-use mathlib.Core.List.{List, _++_}
-use Prim.Native.Nat.{ℕ, _+_, _-_, _≤_, _<_}
+use mathlib.Core.Path.{_≡_}
+use mathlib.Core.List.{_++_}
+use Prim.Native.Nat.{_-_}
 use native.Mathlib.Omega.{arith}
 use lib.ListN.{length, take, length-take}
-use Rattle.listing.specs.Loops.{Listed}
 use Rattle.backward.specs.Searched.{Searched}
 use Rattle.pieces.specs.Scans.{scanOf}
 use Rattle.pieces.proofs.Scans.{scan-inspections}
 use Rattle.pieces.proofs.Stretches.{seam-fitting}
-use Rattle.pieces.proofs.Backwards.{from, seamed, passed, pieces-one, pieces-two, next-fitting, looks-fit}
+use Rattle.pieces.proofs.Backwards.{from, pieces-one, pieces-two, next-fitting, looks-fit}
 use borrow.Author.Needs.{needs}
 use Rattle.pieces.proofs.backward_pieces.Statement.{statement}
 use Rattle.pieces.proofs.backward_pieces.Tie as tie

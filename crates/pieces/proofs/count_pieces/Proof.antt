@@ -1,17 +1,15 @@
 -- `pieces::count_pieces` meets its contract.
-use mathlib.Core.Path.{_≡_, refl, sym, ap, _∙_}
+use mathlib.Core.Path.{_≡_, sym, _∙_}
 use mathlib.Core.List.{List, _++_}
-use Prim.Native.Nat.{ℕ, _+_, _-_, _≤_, _<_}
+use Prim.Native.Nat.{ℕ, _+_, _≤_, _<_}
 use native.Mathlib.Omega.{arith}
-use lib.ListN.{length, take, length-take}
+use lib.ListN.{length, length-take}
 use Rattle.listing.specs.Loops.{Listed}
-use Rattle.jumbled.specs.Scan.{Judged, forward}
 use Rattle.jumbled.specs.Match.{starts}
 use Rattle.jumbled.specs.Steps.{countJudged}
-use Rattle.jumbled.proofs.Cuts.{forward-count}
 use Rattle.pieces.proofs.Joins.{found-none, forward-none}
 use Rattle.pieces.proofs.Forwards.{from-first, lead-seam, seamed, pieces-one, pieces-two, next-fitting, looks-fit}
-use Rattle.pieces.proofs.Stretches.{all-starts, inside, full, startable, chunk-fitting}
+use Rattle.pieces.proofs.Stretches.{all-starts, full, startable}
 use borrow.Author.Needs.{needs}
 use Rattle.pieces.proofs.count_pieces.Statement.{statement}
 use Rattle.pieces.proofs.count_pieces.Tie as tie

@@ -1,5 +1,4 @@
 -- `pieces::hcam_seam` meets its contract.
-use mathlib.Core.Path.{_≡_, sym, ap}
 use native.Mathlib.Omega.{arith}
 use borrow.Author.Needs.{needs}
 use Rattle.jumbled.specs.Steps.{hcamJudged}

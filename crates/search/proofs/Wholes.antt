@@ -1,0 +1,94 @@
+-- A whole search's answer: a refusal, or what its steps list.
+use mathlib.Core.Path.{_≡_, refl, sym, ap, _∙_}
+use mathlib.Core.Bool.{cond}
+use mathlib.Core.List.{List, [], _∷_, _++_}
+use Prim.Native.Nat.{ℕ, _<_}
+use native.Mathlib.Omega.{arith}
+use lib.Dec.{lit<}
+use lib.ListN.{length}
+use borrow.Author.Tests.{eq-eqb, ne-eqb}
+use Rattle.jumbled.specs.Match.{Bytes, positions}
+use Rattle.jumbled.specs.Steps.{steps}
+use Rattle.jumbled.specs.Refusals.{given, test, patternTests, wholeTests}
+use Rattle.jumbled.proofs.Admission.{given-append, pattern-numbered}
+use Rattle.jumbled.proofs.Methods.{methods-list}
+use Rattle.listing.specs.Placed.{placed}
+use Rattle.listing.proofs.Placing.{shifted-zero}
+use Rattle.admit.specs.Numbers.{numberOf}
+use Rattle.admit.specs.declared.Refusal.{Refusal}
+use Rattle.admit.specs.declared.Refusal.the-variants.{PatternLength, ToleranceTooLarge, UnknownMethod, ToleranceNotTaken, FieldsTooWide, TextTooLong, TooFewPlaces, TotalTooLarge, Malformed, BufferTooShort, BadRequest}
+use Rattle.pieces.specs.Joined.{Found}
+use Rattle.pieces.specs.declared.Done.{Done}
+use Rattle.search.specs.declared.Answer.the-variants.{Listed, Refused}
+use Rattle.search.specs.Answers.{unlessRefused}
+use Rattle.search.specs.Whole.{tooLong, tooFewPlaces, wholeNumber, Whole}
+
+pub number-positive : (refusal : Refusal) → 0 < numberOf refusal
+number-positive PatternLength = lit< tt
+number-positive ToleranceTooLarge = lit< tt
+number-positive UnknownMethod = lit< tt
+number-positive ToleranceNotTaken = lit< tt
+number-positive FieldsTooWide = lit< tt
+number-positive TextTooLong = lit< tt
+number-positive TooFewPlaces = lit< tt
+number-positive TotalTooLarge = lit< tt
+number-positive Malformed = lit< tt
+number-positive BufferTooShort = lit< tt
+number-positive BadRequest = lit< tt
+
+-- what is said on a refusal, and what where nothing is refused
+pub on-refusal : {A : Type 0} (refusal : Refusal) (number : ℕ) (accepted refused : A) → numberOf refusal ≡ number → refused ≡ unlessRefused number accepted refused
+on-refusal refusal number accepted refused e =
+    rw (ne-eqb number 0 (λ q. let positive = number-positive refusal in omega arith)) refl
+
+pub on-accepted : {A : Type 0} (number : ℕ) (accepted refused : A) → number ≡ 0 → accepted ≡ unlessRefused number accepted refused
+on-accepted number accepted refused e = rw (eq-eqb number 0 e) refl
+
+-- the tests of a whole search: those of the pattern, then 6 and 7
+pub whole-number : (P : List ℕ) (k method : ℕ) (T list : List ℕ)
+    → wholeNumber P k method T list
+    ≡ unlessRefused (given (patternTests P k method)) (cond (tooLong T) 6 (cond (tooFewPlaces T list) 7 0)) (given (patternTests P k method))
+unfolding wholeNumber wholeTests given
+whole-number P k method T list =
+    given-append (patternTests P k method) (test 6 (tooLong T) ∷ test 7 (tooFewPlaces T list) ∷ []) (pattern-numbered P k method)
+    ∙ ap (λ (n : ℕ). unlessRefused (given (patternTests P k method)) n (given (patternTests P k method))) later
+  where
+    later : given (test 6 (tooLong T) ∷ test 7 (tooFewPlaces T list) ∷ []) ≡ cond (tooLong T) 6 (cond (tooFewPlaces T list) 7 0)
+    later = refl
+
+module _ (P : List ℕ) (k method : ℕ) (T list : List ℕ) where
+  whole-early : (refusal : Refusal) → numberOf refusal ≡ given (patternTests P k method) → numberOf refusal ≡ wholeNumber P k method T list
+  whole-early refusal e =
+      e ∙ on-refusal refusal (given (patternTests P k method)) (cond (tooLong T) 6 (cond (tooFewPlaces T list) 7 0)) (given (patternTests P k method)) e
+      ∙ sym (whole-number P k method T list)
+
+  pub whole-late : given (patternTests P k method) ≡ 0 → wholeNumber P k method T list ≡ cond (tooLong T) 6 (cond (tooFewPlaces T list) 7 0)
+  whole-late e =
+      whole-number P k method T list
+      ∙ sym (on-accepted (given (patternTests P k method)) (cond (tooLong T) 6 (cond (tooFewPlaces T list) 7 0)) (given (patternTests P k method)) e)
+
+  -- a refusal leaves everything as it was
+  pub whole-refused : (refusal : Refusal) → numberOf refusal ≡ wholeNumber P k method T list → Whole P k method T list list (Refused refusal)
+  whole-refused refusal e =
+      record {
+        number = e;
+        found = on-refusal refusal (wholeNumber P k method T list) (length (positions P k T)) 0 e;
+        looks = on-refusal refusal (wholeNumber P k method T list) (steps P k method T .inspections) 0 e;
+        list = on-refusal refusal (wholeNumber P k method T list) (placed list 0 (positions P k T)) list e;
+        by-steps = λ q. absurd (let positive = number-positive refusal in omega arith);
+      }
+
+  pub whole-refused-early : (refusal : Refusal) → numberOf refusal ≡ given (patternTests P k method) → Whole P k method T list list (Refused refusal)
+  whole-refused-early refusal e = whole-refused refusal (whole-early refusal e)
+
+  pub whole-listed : Bytes P → Bytes T → given (patternTests P k method) ≡ 0 → wholeNumber P k method T list ≡ 0 → (after : List ℕ) (done : Done) → Found (steps P k method ([] ++ T)) 0 list after done
+      → Whole P k method T list after (Listed (done .found) (done .looks))
+  whole-listed hP hT admitted e after done found =
+      let right : steps P k method T .positions ≡ positions P k T = methods-list P k method T hP hT admitted in
+      record {
+        number = sym e;
+        found = found .found ∙ ap length right ∙ on-accepted (wholeNumber P k method T list) (length (positions P k T)) 0 e;
+        looks = found .looks ∙ on-accepted (wholeNumber P k method T list) (steps P k method T .inspections) 0 e;
+        list = found .filled ∙ ap (placed list 0) (shifted-zero (steps P k method T .positions) ∙ right) ∙ on-accepted (wholeNumber P k method T list) (placed list 0 (positions P k T)) list e;
+        by-steps = λ q. right;
+      }
