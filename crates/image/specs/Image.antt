@@ -1,0 +1,66 @@
+-- What save writes: document 01, "The saved image".
+use mathlib.Core.Path.{_≡_}
+use mathlib.Core.Bool.{cond}
+use mathlib.Core.List.{List, [], _∷_, _++_}
+use Prim.Native.Nat.{ℕ, zero, suc, _+_, _*_, _/_, _%_, _^_, _≤_, _<_}
+use lib.Dec.{eqb}
+use lib.ListN.{length}
+use Rattle.jumbled.specs.Match.{cc}
+
+-- What a search is saved as: "pattern, k, method, total n, and the tail" (document 01, "A search and its calls")
+pub record Parts : Type 0 where
+  pub pattern : List ℕ
+  pub k : ℕ
+  pub method : ℕ
+  pub total : ℕ
+  pub tail : List ℕ
+
+abbrev pub partsWith : List ℕ → ℕ → ℕ → ℕ → List ℕ → Parts
+partsWith P k method n tail = record { pattern = P; k = k; method = method; total = n; tail = tail }
+
+-- n in `count` bytes, "low byte first"
+unfoldable pub lowFirst : ℕ → ℕ → List ℕ
+lowFirst zero n = []
+lowFirst (suc count) n = n % 256 ∷ lowFirst count (n / 256)
+
+-- "Kind 1: the pattern. Kind 2: k, method, one byte each. Kind 3: n as 32 bits, low byte first. Kind 4: the tail." There is no other kind.
+unfoldable pub body : Parts → ℕ → List ℕ
+body parts kind =
+    cond (eqb kind 1) (parts .pattern)
+    (cond (eqb kind 2) (parts .k ∷ parts .method ∷ [])
+    (cond (eqb kind 3) (lowFirst 4 (parts .total))
+    (cond (eqb kind 4) (parts .tail)
+    [])))
+
+-- An entry of 3 bytes: "kind, then length as 16 bits, low byte first"
+abbrev pub entry : ℕ → ℕ → List ℕ
+entry kind len = kind ∷ lowFirst 2 len
+
+-- The entries of some kinds, in their order
+unfoldable pub entries : Parts → List ℕ → List ℕ
+entries parts [] = []
+entries parts (kind ∷ order) = entry kind (length (body parts kind)) ++ entries parts order
+
+-- The bodies of some kinds, in their order
+unfoldable pub bodies : Parts → List ℕ → List ℕ
+bodies parts [] = []
+bodies parts (kind ∷ order) = body parts kind ++ bodies parts order
+
+-- The image whose entries stand in an order: "byte 04, then four entries", "then the bodies in the order of the entries"
+unfoldable pub image : List ℕ → Parts → List ℕ
+image order parts = 4 ∷ (entries parts order ++ bodies parts order)
+
+-- The kinds 1 to 4, each once
+pub record IsOrder (order : List ℕ) : Type 0 where
+  pub four : length order ≡ 4
+  pub once : (kind : ℕ) → 1 ≤ kind → kind ≤ 4 → cc order kind ≡ 1
+
+-- The order that every save writes, which document 01 leaves free. Proofs of anything but the writing itself know of it that it is an order.
+unfoldable pub saveOrder : List ℕ
+saveOrder = 1 ∷ 2 ∷ 3 ∷ 4 ∷ []
+
+-- Parts that an image has room to say: lengths of 16 bits, n of 32
+pub record Sized (parts : Parts) : Type 0 where
+  pub pattern-short : length (parts .pattern) < 2 ^ 16
+  pub tail-short : length (parts .tail) < 2 ^ 16
+  pub total-fits : parts .total < 2 ^ 32
