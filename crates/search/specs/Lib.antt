@@ -1,2 +1,4 @@
 pub mod Answers
 pub mod Whole
+pub mod Searches
+pub mod Calls

@@ -13,6 +13,43 @@ pub enum Answer {
     Refused(Refusal),
 }
 
+// A search that goes on from chunk to chunk. Bytes past the lengths are no part of it.
+pub struct Search {
+    pub pattern: [u8; 64],
+    pub pattern_len: usize,
+    pub k: u8,
+    pub method: u8,
+    // How many bytes were searched in all.
+    pub total: u32,
+    // The last bytes of these: as many as a window that ends in the next chunk can reach.
+    pub tail: [u8; 63],
+    pub tail_len: usize,
+}
+
+// A search, and whether the call that hands it back was refused.
+pub struct Held {
+    pub admission: Admission,
+    pub search: Search,
+}
+
+// A search that was fed a chunk, and what was found.
+pub struct Fed {
+    pub answer: Answer,
+    pub search: Search,
+}
+
+// What a save answers: the image's length.
+pub enum Saving {
+    Written(usize),
+    Refused(Refusal),
+}
+
+// A search as it came, and what became of its image.
+pub struct Kept {
+    pub saving: Saving,
+    pub search: Search,
+}
+
 // Whole search: all of the text at once, its positions in the list's first places.
 pub fn whole(pattern: &[u8], k: u8, method: u8, text: &[u8], list: &mut [u32]) -> Answer
     ensures { λ r. ⌜ Whole (now (pattern .entry)) k method (now (text .entry)) (now (list .entry)) (now (list .exit)) r ⌝ }
