@@ -1,18 +1,17 @@
 -- Laws of what any bytes say, read as an image.
 use mathlib.Core.Path.{_≡_, refl, sym, ap, ap₂, _∙_}
-use mathlib.Core.Bool.{Bool, true, false, cond, not, _&&_, _||_}
+use mathlib.Core.Bool.{Bool, true, false, not, _||_}
 use mathlib.Core.List.{List, [], _∷_}
 use mathlib.Core.Logic.{_⊎_, inl, inr, ⊎-elim}
-use Prim.Native.Nat.{ℕ, zero, suc, _+_, _-_, _*_, _≤_, _<_}
-use native.Mathlib.Nat.{zero-add}
+use Prim.Native.Nat.{ℕ, suc, _+_, _-_, _*_, _≤_, _<_}
 use native.Mathlib.Omega.{arith}
-use lib.Dec.{eqb, ltb}
-use lib.ListN.{length, getD, take, drop, length-take, length-drop}
+use lib.Dec.{eqb}
+use lib.ListN.{length, getD, drop, length-take, length-drop}
 use lib.Seq.{getD-drop, drop-drop}
 use borrow.Author.Tests.{eq-eqb, ne-eqb, eqb-true, eqb-false, ltb-false, le-ltb, not-false}
 use Rattle.jumbled.specs.Match.{bit}
-use Rattle.jumbled.proofs.Counts.{cc-cons}
-use Rattle.image.specs.Decode.{number, Entry, firstEntry, entriesIn, contents, lengthIn, lengthsBefore, lengths, lengthOf, startOf, bodyOf, times, kindsRight, badForm}
+use Rattle.jumbled.proofs.Counts.{cc-nil, cc-cons}
+use Rattle.image.specs.Decode.{Entry, entriesIn, contents, lengthIn, lengthsBefore, lengths, lengthOf, startOf, bodyOf, times, kindsRight, badForm}
 use Rattle.image.proofs.Numbers.{number-two}
 
 pub same-or-not : (a b : ℕ) → (a ≡ b) ⊎ (a ≡ b → ⊥)
@@ -21,6 +20,13 @@ same-or-not a b = by (eqb a b) refl
     by : (t : Bool) → eqb a b ≡ t → (a ≡ b) ⊎ (a ≡ b → ⊥)
     by true e = inl (eqb-true a b e)
     by false e = inr (eqb-false a b e)
+
+-- a test of a number by what it equals
+pub equal-known : {r n : ℕ} (k : ℕ) → r ≡ n → r ≡ k → eqb n k ≡ true
+equal-known {r} {n} k e same = eq-eqb n k (sym e ∙ same)
+
+pub differs-known : {r n : ℕ} (k : ℕ) → r ≡ n → (r ≡ k → ⊥) → eqb n k ≡ false
+differs-known {r} {n} k e differ = ne-eqb n k (λ (same : n ≡ k). differ (e ∙ same))
 
 -- ---- one entry more
 
@@ -44,6 +50,10 @@ module _ (kind : ℕ) (e : Entry) (es : List Entry) where
   pub times-cons : times kind (e ∷ es) ≡ bit (eqb (e .kind) kind) + times kind es
   unfolding times
   times-cons = cc-cons (e .kind) _ kind
+
+pub times-nil : (kind : ℕ) → times kind [] ≡ 0
+unfolding times
+times-nil kind = cc-nil kind
 
 -- the body of a kind ends where the last body does, or before
 pub place-within : (kind : ℕ) (es : List Entry) → lengthsBefore kind es + lengthIn kind es ≤ lengths es

@@ -1,21 +1,21 @@
 -- What is read in an image is what was written, whatever the order of its entries.
 use mathlib.Core.Path.{_≡_, refl, sym, ap, ap₂, _∙_}
-use mathlib.Core.Bool.{Bool, true, false, cond, not}
+use mathlib.Core.Bool.{Bool, true, false, cond}
 use mathlib.Core.List.{List, [], _∷_, _++_, map, append-assoc}
-use mathlib.Core.Logic.{_⊎_, inl, inr, ⊎-elim}
+use mathlib.Core.Logic.{⊎-elim}
 use Prim.Native.Nat.{ℕ, zero, suc, _+_, _*_, _^_, _≤_, _<_}
-use native.Mathlib.Nat.{add-mul, add-assoc}
+use native.Mathlib.Nat.{add-mul}
 use native.Mathlib.Omega.{arith}
 use lib.Dec.{eqb}
 use lib.ListN.{length, getD, take, drop, length-append}
-use lib.Seq.{take-append-seam, drop-append-seam, drop-append-add}
-use borrow.Author.Tests.{eq-eqb, ne-eqb, le-ltb, eqb-true, eqb-false}
+use lib.Seq.{take-append-seam, drop-append-add}
+use borrow.Author.Tests.{eq-eqb, ne-eqb}
 use Rattle.jumbled.specs.Match.{bit, cc}
 use Rattle.jumbled.proofs.Counts.{cc-nil, cc-cons}
-use Rattle.image.specs.Image.{Parts, partsWith, lowFirst, body, entry, entries, bodies, image, IsOrder, saveOrder, Sized}
-use Rattle.image.specs.Decode.{number, Entry, firstEntry, entriesIn, contents, lengthIn, lengthsBefore, lengths, lengthOf, startOf, bodyOf, times, kindsRight, badForm, partsOf}
+use Rattle.image.specs.Image.{Parts, partsWith, lowFirst, body, entry, each, entries, image, IsOrder, saveOrder, Sized}
+use Rattle.image.specs.Decode.{number, Entry, firstEntry, entriesIn, contents, lengthIn, lengthsBefore, lengths, lengthOf, bodyOf, times, kindsRight, badForm, partsOf}
 use Rattle.image.proofs.Numbers.{number-lowFirst, length-lowFirst}
-use Rattle.image.proofs.Contents.{same-or-not, length-here, length-later, before-here, before-later, Formed, formed, taken}
+use Rattle.image.proofs.Contents.{same-or-not, length-here, length-later, before-here, before-later, taken}
 
 -- ---- bodies
 
@@ -75,9 +75,9 @@ body-short {parts} sized kind =
 -- ---- lengths
 
 -- each body is as often among the bodies as its kind is in the order
-length-bodies : (parts : Parts) (order : List ℕ) → length (bodies parts order)
+length-bodies : (parts : Parts) (order : List ℕ) → length (each (body parts) order)
     ≡ cc order 1 * length (parts .pattern) + cc order 2 * 2 + cc order 3 * 4 + cc order 4 * length (parts .tail)
-unfolding bodies size
+unfolding each size
 length-bodies parts [] = rw (cc-nil 1, cc-nil 2, cc-nil 3, cc-nil 4) (omega arith)
 length-bodies parts (kind ∷ order) =
     let rest = length-bodies parts order in
@@ -85,23 +85,39 @@ length-bodies parts (kind ∷ order) =
     rw (cc-cons kind order 1, cc-cons kind order 2, cc-cons kind order 3, cc-cons kind order 4)
     (omega (
       arith,
-      length-append (body parts kind) (bodies parts order),
+      length-append (body parts kind) (each (body parts) order),
       add-mul (bit (eqb kind 1)) (cc order 1) (length (parts .pattern)),
       add-mul (bit (eqb kind 4)) (cc order 4) (length (parts .tail)),
     ))
 
-length-entries : (parts : Parts) (order : List ℕ) → length (entries parts order) ≡ 3 * length order
-unfolding entries lowFirst
-length-entries parts [] = refl
-length-entries parts (kind ∷ order) = let rest = length-entries parts order in omega arith
+pub length-entries : (bodyFor : ℕ → List ℕ) (order : List ℕ) → length (entries bodyFor order) ≡ 3 * length order
+unfolding each lowFirst
+length-entries bodyFor [] = refl
+length-entries bodyFor (kind ∷ order) = let rest = length-entries bodyFor order in omega arith
 
-pub length-image : {order : List ℕ} (parts : Parts) → IsOrder order
-    → length (image order parts) ≡ 13 + 6 + length (parts .pattern) + length (parts .tail)
-unfolding image
-length-image {order} parts o =
-    let sizes : length (bodies parts order) ≡ 1 * length (parts .pattern) + 1 * 2 + 1 * 4 + 1 * length (parts .tail) =
-    rw (o .once 1 (omega arith) (omega arith), o .once 2 (omega arith) (omega arith), o .once 3 (omega arith) (omega arith), o .once 4 (omega arith) (omega arith)) at (length-bodies parts order) in
-    omega (arith, length-append (entries parts order) (bodies parts order), length-entries parts order, o .four)
+module _ {order : List ℕ} (parts : Parts) (o : IsOrder order) where
+  pub length-in-order : length (each (body parts) order) ≡ 6 + length (parts .pattern) + length (parts .tail)
+  length-in-order =
+      let sizes : length (each (body parts) order) ≡ 1 * length (parts .pattern) + 1 * 2 + 1 * 4 + 1 * length (parts .tail) =
+      rw (
+        o .once 1 (omega arith) (omega arith),
+        o .once 2 (omega arith) (omega arith),
+        o .once 3 (omega arith) (omega arith),
+        o .once 4 (omega arith) (omega arith),
+      )
+      at (length-bodies parts order) in
+      omega arith
+
+  pub length-image : length (image order parts) ≡ 13 + 6 + length (parts .pattern) + length (parts .tail)
+  unfolding image
+  length-image =
+      omega (
+        arith,
+        length-append (entries (body parts) order) (each (body parts) order),
+        length-entries (body parts) order,
+        length-in-order,
+        o .four,
+      )
 
 -- ---- the contents of an image
 
@@ -116,22 +132,22 @@ module _ {parts : Parts} (sized : Sized parts) where
   first-entry kind rest =
       ap (λ (n : ℕ). record { kind = kind; len = n }) (number-lowFirst 2 (length (body parts kind)) (body-short sized kind))
 
-  entries-told : (order rest : List ℕ) → entriesIn (length order) (entries parts order ++ rest) ≡ told parts order
-  unfolding entriesIn entries told lowFirst
+  entries-told : (order rest : List ℕ) → entriesIn (length order) (entries (body parts) order ++ rest) ≡ told parts order
+  unfolding entriesIn each told lowFirst
   entries-told [] rest = refl
   entries-told (kind ∷ order) rest =
-      ap₂ (λ (e : Entry) (es : List Entry). e ∷ es) (first-entry kind (entries parts order ++ rest)) (entries-told order rest)
+      ap₂ (λ (e : Entry) (es : List Entry). e ∷ es) (first-entry kind (entries (body parts) order ++ rest)) (entries-told order rest)
 
   contents-image : (order : List ℕ) → length order ≡ 4 → contents (image order parts) ≡ told parts order
   unfolding contents image
   contents-image order four =
-      ap (λ (n : ℕ). entriesIn n (entries parts order ++ bodies parts order)) (sym four) ∙ entries-told order (bodies parts order)
+      ap (λ (n : ℕ). entriesIn n (entries (body parts) order ++ each (body parts) order)) (sym four) ∙ entries-told order (each (body parts) order)
 
-lengths-told : (parts : Parts) (order : List ℕ) → lengths (told parts order) ≡ length (bodies parts order)
-unfolding lengths told bodies
+lengths-told : (parts : Parts) (order : List ℕ) → lengths (told parts order) ≡ length (each (body parts) order)
+unfolding lengths told each
 lengths-told parts [] = refl
 lengths-told parts (kind ∷ order) =
-    ap (λ (n : ℕ). length (body parts kind) + n) (lengths-told parts order) ∙ sym (length-append (body parts kind) (bodies parts order))
+    ap (λ (n : ℕ). length (body parts kind) + n) (lengths-told parts order) ∙ sym (length-append (body parts kind) (each (body parts) order))
 
 times-told : (parts : Parts) (order : List ℕ) (kind : ℕ) → times kind (told parts order) ≡ cc order kind
 unfolding told times
@@ -157,21 +173,21 @@ length-told parts (a ∷ order) kind h =
 -- and its body stands after the bodies of the entries before it: `front` is what stands before the first of them
 abbrev Stands : Parts → List ℕ → ℕ → List ℕ → Type 0
 Stands parts order kind front =
-    take (length (body parts kind)) (drop (length front + lengthsBefore kind (told parts order)) (front ++ bodies parts order)) ≡ body parts kind
+    take (length (body parts kind)) (drop (length front + lengthsBefore kind (told parts order)) (front ++ each (body parts) order)) ≡ body parts kind
 
 body-told : (parts : Parts) (order : List ℕ) (kind : ℕ) → 0 < cc order kind → (front : List ℕ) → Stands parts order kind front
-unfolding told bodies
+unfolding told each
 body-told parts [] kind h front = absurd (omega (arith, cc-nil kind))
 body-told parts (a ∷ order) kind h front =
     ⊎-elim here (λ (differ : a ≡ kind → ⊥). there differ (body-told parts order kind (later order differ h) (front ++ body parts a))) (same-or-not a kind)
   where
     here : a ≡ kind → Stands parts (a ∷ order) kind front
     here same =
-        ap (λ (n : ℕ). take (length (body parts kind)) (drop (length front + n) (front ++ (body parts a ++ bodies parts order))))
+        ap (λ (n : ℕ). take (length (body parts kind)) (drop (length front + n) (front ++ (body parts a ++ each (body parts) order))))
         (before-here kind _ (told parts order) same)
-        ∙ ap (take (length (body parts kind))) (drop-append-add front (body parts a ++ bodies parts order) 0)
-        ∙ ap (λ (b : ℕ). take (length (body parts b)) (body parts a ++ bodies parts order)) (sym same)
-        ∙ take-append-seam (body parts a) (bodies parts order)
+        ∙ ap (take (length (body parts kind))) (drop-append-add front (body parts a ++ each (body parts) order) 0)
+        ∙ ap (λ (b : ℕ). take (length (body parts b)) (body parts a ++ each (body parts) order)) (sym same)
+        ∙ take-append-seam (body parts a) (each (body parts) order)
         ∙ ap (body parts) same
 
     there : (a ≡ kind → ⊥) → Stands parts order kind (front ++ body parts a) → Stands parts (a ∷ order) kind front
@@ -182,7 +198,7 @@ body-told parts (a ∷ order) kind h front =
           before-later kind (record { kind = a; len = length (body parts a) }) (told parts order) differ,
           length-append front (body parts a),
         ) in
-        ap₂ (λ (n : ℕ) (l : List ℕ). take (length (body parts kind)) (drop n l)) start (sym (append-assoc front (body parts a) (bodies parts order)))
+        ap₂ (λ (n : ℕ) (l : List ℕ). take (length (body parts kind)) (drop n l)) start (sym (append-assoc front (body parts a) (each (body parts) order)))
         ∙ rest
 
 -- ---- the image of some parts, in any order
@@ -202,10 +218,10 @@ module _ {order : List ℕ} {parts : Parts} (o : IsOrder order) (sized : Sized p
       → take (length (body parts kind)) (drop (13 + lengthsBefore kind (told parts order)) (image order parts)) ≡ body parts kind
   unfolding image
   stands kind least most =
-      let front : length (4 ∷ entries parts order) ≡ 13 = omega (arith, length-entries parts order, o .four) in
-      ap (λ (n : ℕ). take (length (body parts kind)) (drop (n + lengthsBefore kind (told parts order)) (4 ∷ (entries parts order ++ bodies parts order))))
+      let front : length (4 ∷ entries (body parts) order) ≡ 13 = omega (arith, length-entries (body parts) order, o .four) in
+      ap (λ (n : ℕ). take (length (body parts kind)) (drop (n + lengthsBefore kind (told parts order)) (4 ∷ (entries (body parts) order ++ each (body parts) order))))
       (sym front)
-      ∙ body-told parts order kind (occurs kind least most) (4 ∷ entries parts order)
+      ∙ body-told parts order kind (occurs kind least most) (4 ∷ entries (body parts) order)
 
   -- each body is found
   pub bodyOf-image : (kind : ℕ) → 1 ≤ kind → kind ≤ 4 → bodyOf kind (image order parts) ≡ body parts kind
@@ -233,8 +249,8 @@ module _ {order : List ℕ} {parts : Parts} (o : IsOrder order) (sized : Sized p
   whole-length =
       omega (
         arith,
-        length-append (entries parts order) (bodies parts order),
-        length-entries parts order,
+        length-append (entries (body parts) order) (each (body parts) order),
+        length-entries (body parts) order,
         o .four,
         ap lengths told-contents,
         lengths-told parts order,
@@ -285,7 +301,7 @@ save-order = record { four = refl; once = once }
 -- document 01, "The saved image": "In order 1 to 4 a fresh search for `ab`, k 0, method 2 is 04 010200 020200 030400 040000 6162 0002 00000000"
 pub example : image (1 ∷ 2 ∷ 3 ∷ 4 ∷ []) (partsWith (97 ∷ 98 ∷ []) 0 2 0 [])
     ≡ 4 ∷ 1 ∷ 2 ∷ 0 ∷ 2 ∷ 2 ∷ 0 ∷ 3 ∷ 4 ∷ 0 ∷ 4 ∷ 0 ∷ 0 ∷ 97 ∷ 98 ∷ 0 ∷ 2 ∷ 0 ∷ 0 ∷ 0 ∷ 0 ∷ []
-unfolding image entries bodies body lowFirst
+unfolding image each body lowFirst
 example = refl
 
 -- "When a call says no", 9: "image of the byte 04"

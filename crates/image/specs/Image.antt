@@ -2,7 +2,7 @@
 use mathlib.Core.Path.{_≡_}
 use mathlib.Core.Bool.{cond}
 use mathlib.Core.List.{List, [], _∷_, _++_}
-use Prim.Native.Nat.{ℕ, zero, suc, _+_, _*_, _/_, _%_, _^_, _≤_, _<_}
+use Prim.Native.Nat.{ℕ, zero, suc, _/_, _%_, _^_, _≤_, _<_}
 use lib.Dec.{eqb}
 use lib.ListN.{length}
 use Rattle.jumbled.specs.Match.{cc}
@@ -36,19 +36,18 @@ body parts kind =
 abbrev pub entry : ℕ → ℕ → List ℕ
 entry kind len = kind ∷ lowFirst 2 len
 
--- The entries of some kinds, in their order
-unfoldable pub entries : Parts → List ℕ → List ℕ
-entries parts [] = []
-entries parts (kind ∷ order) = entry kind (length (body parts kind)) ++ entries parts order
+-- What a function gives for each kind of an order, one after the other
+unfoldable pub each : (ℕ → List ℕ) → List ℕ → List ℕ
+each f [] = []
+each f (kind ∷ order) = f kind ++ each f order
 
--- The bodies of some kinds, in their order
-unfoldable pub bodies : Parts → List ℕ → List ℕ
-bodies parts [] = []
-bodies parts (kind ∷ order) = body parts kind ++ bodies parts order
+-- The entries in an order, where a function gives each kind its body
+abbrev pub entries : (ℕ → List ℕ) → List ℕ → List ℕ
+entries bodyFor order = each (λ kind. entry kind (length (bodyFor kind))) order
 
 -- The image whose entries stand in an order: "byte 04, then four entries", "then the bodies in the order of the entries"
 unfoldable pub image : List ℕ → Parts → List ℕ
-image order parts = 4 ∷ (entries parts order ++ bodies parts order)
+image order parts = 4 ∷ (entries (body parts) order ++ each (body parts) order)
 
 -- The kinds 1 to 4, each once
 pub record IsOrder (order : List ℕ) : Type 0 where
