@@ -17,7 +17,7 @@ const HEAD: usize = 13;
 // ---- writing
 
 // All of source, put into the buffer from a place on; the place after it is given.
-fn copy_in(source: &[u8], buffer: &mut [u8], at: usize) -> usize
+pub fn copy_in(source: &[u8], buffer: &mut [u8], at: usize) -> usize
     requires { ⌜ at + length (now source) ≤ length (now buffer) ⌝ }
     ensures { λ r. ⌜ Put (now (source .entry)) (now (buffer .entry)) (now (buffer .exit)) at r ⌝ }
 {

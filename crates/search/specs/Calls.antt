@@ -7,7 +7,7 @@ use lib.Dec.{eqb, ltb}
 use lib.ListN.{length}
 use Rattle.jumbled.specs.Match.{positions}
 use Rattle.jumbled.specs.Steps.{steps}
-use Rattle.jumbled.specs.Refusals.{given, patternTests, feedTests, setMethodTests, saveTests, loadTests}
+use Rattle.jumbled.specs.Refusals.{Test, given, patternTests, searchTests, feedTests, setMethodTests, saveTests, loadTests}
 use Rattle.listing.specs.Placed.{placed, shifted}
 use Rattle.image.specs.Image.{Parts, partsWith, image, saveOrder}
 use Rattle.image.specs.Decode.{badForm, partsOf}
@@ -21,6 +21,13 @@ use Rattle.search.specs.declared.Saving.the-variants as Saving
 use Rattle.search.specs.Answers.{answerNumber, answerFound, answerLooks, unlessRefused}
 use Rattle.search.specs.Whole.{tooLong, tooFewPlaces}
 use Rattle.search.specs.Searches.{patternOf, tailOf, partsOfSearch, stored, blank, lastOf, tailLength, badTail, tooLongPattern}
+
+-- The tests of a search handed in: "1 to 5, then 9 if the tail length isn't min(n, m − 1)"
+unfoldable pub handedTests : Search → List Test
+handedTests s = tooLongPattern s ∷ searchTests (patternOf s) (s .k) (s .method) (badTail s)
+
+unfoldable pub handedNumber : Search → ℕ
+handedNumber s = given (handedTests s)
 
 -- ---- open
 

@@ -1,11 +1,15 @@
 // Searches: document 01, "A search and its calls".
 
+ghost use mathlib.Core.Path.{_≡_};
+ghost use mathlib.Core.List.{_++_};
+ghost use Prim.Native.Nat.{_+_, _≤_};
+ghost use lib.ListN.{length};
 ghost use Rattle.search.specs.Whole.{Whole};
+ghost use Rattle.admit.specs.Numbers.{admissionNumber};
+ghost use Rattle.search.specs.Searches.{padded, lastOf};
+ghost use Rattle.search.specs.Calls.{handedNumber, Opened};
 use admit::Admission;
 use admit::Refusal;
-
-// The longest text or chunk that is taken.
-const LONGEST: usize = 65536;
 
 // What a search of a text or of a chunk answers.
 pub enum Answer {
@@ -58,7 +62,7 @@ pub fn whole(pattern: &[u8], k: u8, method: u8, text: &[u8], list: &mut [u32]) -
     if let Admission::Refused(refusal) = admission {
         return Answer::Refused(refusal);
     }
-    if LONGEST < text.len() {
+    if Search::LONGEST_CHUNK < text.len() {
         return Answer::Refused(Refusal::TextTooLong);
     }
     if list.len() < text.len() {
@@ -69,5 +73,97 @@ pub fn whole(pattern: &[u8], k: u8, method: u8, text: &[u8], list: &mut [u32]) -
     Answer::Listed {
         found: done.found,
         looks: done.looks,
+    }
+}
+
+// Source in the first places of an array of 64, the others 0.
+fn stored_pattern(source: &[u8]) -> [u8; 64]
+    requires { ⌜ length (now source) ≤ 64 ⌝ }
+    ensures { λ r. ⌜ r ≡ padded 64 (now (source .entry)) ⌝ }
+{
+    let mut bytes = [0u8; 64];
+    image::copy_in(source, &mut bytes, 0);
+    bytes
+}
+
+// The last keep bytes of the tail followed by the chunk, the other places 0.
+fn next_tail(tail: &[u8], chunk: &[u8], keep: usize) -> [u8; 63]
+    requires { ⌜ (keep ≤ 63) × (keep ≤ length (now tail) + length (now chunk)) ⌝ }
+    ensures { λ r. ⌜ r ≡ padded 63 (lastOf keep (now (tail .entry) ++ now (chunk .entry))) ⌝ }
+{
+    let mut bytes = [0u8; 63];
+    if keep <= chunk.len() {
+        let from = chunk.len() - keep;
+        image::copy_in(&chunk[from..], &mut bytes, 0);
+        return bytes;
+    }
+    let from = tail.len() + chunk.len() - keep;
+    let at = image::copy_in(&tail[from..], &mut bytes, 0);
+    image::copy_in(chunk, &mut bytes, at);
+    bytes
+}
+
+impl Search {
+    // The longest pattern,
+    pub const LONGEST_PATTERN: usize = 64;
+    // the longest text or chunk,
+    pub const LONGEST_CHUNK: usize = 65536;
+    // and the blank search.
+    pub const BLANK: Search = Search {
+        pattern: [0; 64],
+        pattern_len: 0,
+        k: 0,
+        method: 1,
+        total: 0,
+        tail: [0; 63],
+        tail_len: 0,
+    };
+
+    // A search for a pattern, of nothing yet.
+    pub fn open(pattern: &[u8], k: u8, method: u8) -> Held
+        ensures { λ r. ⌜ Opened (now (pattern .entry)) k method r ⌝ }
+    {
+        let admission = admit::admit(pattern, k, method);
+        if let Admission::Refused(refusal) = admission {
+            return Held {
+                admission: Admission::Refused(refusal),
+                search: Search::BLANK,
+            };
+        }
+        let bytes = stored_pattern(pattern);
+        Held {
+            admission: Admission::Accepted,
+            search: Search {
+                pattern: bytes,
+                pattern_len: pattern.len(),
+                k,
+                method,
+                total: 0,
+                tail: [0; 63],
+                tail_len: 0,
+            },
+        }
+    }
+
+    // The tests of a search handed in, which may have been filled in by hand: 1 to 5, then 9.
+    fn checked(self) -> Admission
+        ensures { λ r. ⌜ admissionNumber r ≡ handedNumber self ⌝ }
+    {
+        let len = self.pattern_len;
+        if Search::LONGEST_PATTERN < len {
+            return Admission::Refused(Refusal::PatternLength);
+        }
+        let pattern = self.pattern;
+        let admission = admit::admit(&pattern[..len], self.k, self.method);
+        if let Admission::Refused(refusal) = admission {
+            return Admission::Refused(refusal);
+        }
+        let total = self.total as usize;
+        let reach = len - 1;
+        let expected = if total < reach { total } else { reach };
+        if self.tail_len != expected {
+            return Admission::Refused(Refusal::Malformed);
+        }
+        Admission::Accepted
     }
 }
