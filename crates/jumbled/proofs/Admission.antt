@@ -31,6 +31,13 @@ given-append ts us none = refl
 given-append ts us (next {n = n} {b = true} more) = rw (eqb·suc-zero n) refl
 given-append ts us (next {n = n} {b = false} {ts = rest} more) = given-append rest us more
 
+-- nothing of both is given: nothing of either is
+pub given-append-none : (ts us : List Test) → Numbered ts → given (ts ++ us) ≡ 0 → (given ts ≡ 0) × (given us ≡ 0)
+unfolding given
+given-append-none ts us none e = (refl, e)
+given-append-none ts us (next {n = n} {b = true} more) e = absurd (suc-ne-zero n e)
+given-append-none ts us (next {b = false} {ts = rest} more) e = given-append-none rest us more e
+
 pub numbered-append : (ts us : List Test) → Numbered ts → Numbered us → Numbered (ts ++ us)
 numbered-append ts us none later = later
 numbered-append ts us (next {ts = rest} more) later = next (numbered-append rest us more later)

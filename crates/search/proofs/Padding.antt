@@ -33,7 +33,7 @@ module _ (tail chunk : List ℕ) (keep : ℕ) where
 
   -- or the chunk is among them
   pub last-both : length chunk < keep → keep ≤ length tail + length chunk
-    → lastOf keep (tail ++ chunk) ≡ drop (length tail + length chunk - keep) tail ++ chunk
+      → lastOf keep (tail ++ chunk) ≡ drop (length tail + length chunk - keep) tail ++ chunk
   last-both h g =
       let from : length (tail ++ chunk) - keep ≡ length tail + length chunk - keep = omega (arith, length-append tail chunk) in
       ap (λ (n : ℕ). drop n (tail ++ chunk)) from ∙ drop-append-le (length tail + length chunk - keep) tail chunk (omega arith)

@@ -7,7 +7,7 @@ ghost use lib.ListN.{length};
 ghost use Rattle.search.specs.Whole.{Whole};
 ghost use Rattle.admit.specs.Numbers.{admissionNumber};
 ghost use Rattle.search.specs.Searches.{padded, lastOf};
-ghost use Rattle.search.specs.Calls.{handedNumber, Opened};
+ghost use Rattle.search.specs.Calls.{handedNumber, Opened, SetsMethod};
 use admit::Admission;
 use admit::Refusal;
 
@@ -165,5 +165,31 @@ impl Search {
             return Admission::Refused(Refusal::Malformed);
         }
         Admission::Accepted
+    }
+
+    // The same search, to go on by another method.
+    pub fn set_method(self, method: u8) -> Held
+        ensures { λ r. ⌜ SetsMethod self method r ⌝ }
+    {
+        let admission = self.checked();
+        if let Admission::Refused(refusal) = admission {
+            return Held {
+                admission: Admission::Refused(refusal),
+                search: self,
+            };
+        }
+        let pattern = self.pattern;
+        let len = self.pattern_len;
+        let change = admit::admit_method(&pattern[..len], self.k, method);
+        if let Admission::Refused(refusal) = change {
+            return Held {
+                admission: Admission::Refused(refusal),
+                search: self,
+            };
+        }
+        Held {
+            admission: Admission::Accepted,
+            search: Search { method, ..self },
+        }
     }
 }

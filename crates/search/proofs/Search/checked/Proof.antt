@@ -24,7 +24,7 @@ accepted s = sym (s .before .before .admit .ensures) ∙ ap admissionNumber (s .
 
 -- the tail's length as it should be
 expected : (c : tie.Joined2)
-  → c .if2 .expected ≡ min (search-of (c .before .before) .total) (search-of (c .before .before) .«pattern_len» - 1)
+    → c .if2 .expected ≡ min (search-of (c .before .before) .total) (search-of (c .before .before) .«pattern_len» - 1)
 expected c = ⊎-elim (λ w. omega arith) (λ w. omega arith) (c .if2 .came)
 
 returns : tie.Need-returns

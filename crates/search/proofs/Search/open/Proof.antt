@@ -12,7 +12,7 @@ use Rattle.search.proofs.Search.open.Statement.{statement}
 use Rattle.search.proofs.Search.open.Tie as tie
 
 accepted : (s : tie.After-enum-told)
-  → given (patternTests (s .before .before .before .before .args .pattern .now) (s .before .before .before .before .args .k) (s .before .before .before .before .args .method)) ≡ 0
+    → given (patternTests (s .before .before .before .before .args .pattern .now) (s .before .before .before .before .args .k) (s .before .before .before .before .args .method)) ≡ 0
 accepted s = sym (s .before .before .admit .ensures) ∙ ap admissionNumber (s .enum-told .given .1)
 
 admit-requires : tie.Need-admit-requires
