@@ -1,3 +1,4 @@
 pub mod Wholes
 pub mod Padding
 pub mod Handed
+pub mod Feeding

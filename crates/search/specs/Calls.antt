@@ -2,12 +2,12 @@
 use mathlib.Core.Path.{_≡_}
 use mathlib.Core.Bool.{Bool, not}
 use mathlib.Core.List.{List, [], _∷_, _++_}
-use Prim.Native.Nat.{ℕ, _+_, _-_}
+use Prim.Native.Nat.{ℕ, _+_, _-_, _≤_}
 use lib.Dec.{eqb, ltb}
 use lib.ListN.{length}
 use Rattle.jumbled.specs.Match.{positions}
 use Rattle.jumbled.specs.Steps.{steps}
-use Rattle.jumbled.specs.Refusals.{Test, given, patternTests, searchTests, feedTests, setMethodTests, saveTests, loadTests}
+use Rattle.jumbled.specs.Refusals.{Test, test, given, patternTests, searchTests, feedTests, setMethodTests, saveTests, loadTests}
 use Rattle.listing.specs.Placed.{placed, shifted}
 use Rattle.image.specs.Image.{Parts, partsWith, image, saveOrder}
 use Rattle.image.specs.Decode.{badForm, partsOf}
@@ -47,6 +47,11 @@ feedNumber s chunk list =
     (tooLongPattern s
     ∷ feedTests (patternOf s) (s .k) (s .method) (badTail s) (tooLong chunk) (tooFewPlaces chunk list) (ltb 4294967295 (s .total + length chunk)))
 
+-- 6, 7 and 8 alone, of a chunk's length, the list's and n
+unfoldable pub limitNumber : ℕ → ℕ → ℕ → ℕ
+limitNumber total chunk places =
+    given (test 6 (ltb 65536 chunk) ∷ test 7 (ltb places chunk) ∷ test 8 (ltb 4294967295 (total + chunk)) ∷ [])
+
 -- "those of the set method over the tail followed by the piece"
 abbrev pub reached : Search → List ℕ → List ℕ
 reached s chunk = tailOf s ++ chunk
@@ -56,6 +61,13 @@ abbrev pub fedParts : Search → List ℕ → Parts
 fedParts s chunk =
     partsWith (patternOf s) (s .k) (s .method) (s .total + length chunk)
     (lastOf (tailLength (length (patternOf s)) (s .total + length chunk)) (reached s chunk))
+
+-- What makes these parts fit a search: a search that passed its tests, and a total that fits 32 bits
+pub record Advancing (s : Search) (chunk : List ℕ) : Type 0 where
+  pub short : s .«pattern_len» ≤ 64
+  pub some : 1 ≤ s .«pattern_len»
+  pub tail-right : s .«tail_len» ≡ tailLength (s .«pattern_len») (s .total)
+  pub fits : s .total + length chunk ≤ 4294967295
 
 pub record Feeds (s : Search) (chunk before after : List ℕ) (r : Fed) : Type 0 where
   pub number : answerNumber (r .answer) ≡ feedNumber s chunk before

@@ -6,8 +6,8 @@ ghost use Prim.Native.Nat.{_+_, _≤_};
 ghost use lib.ListN.{length};
 ghost use Rattle.search.specs.Whole.{Whole};
 ghost use Rattle.admit.specs.Numbers.{admissionNumber};
-ghost use Rattle.search.specs.Searches.{padded, lastOf};
-ghost use Rattle.search.specs.Calls.{handedNumber, Opened, SetsMethod};
+ghost use Rattle.search.specs.Searches.{padded, stored, lastOf};
+ghost use Rattle.search.specs.Calls.{handedNumber, Opened, Advancing, fedParts, limitNumber, Feeds, SetsMethod};
 use admit::Admission;
 use admit::Refusal;
 
@@ -191,5 +191,87 @@ impl Search {
             admission: Admission::Accepted,
             search: Search { method, ..self },
         }
+    }
+
+    // The search once a chunk was searched: the total has grown, and the tail has moved on.
+    fn advanced(self, chunk: &[u8]) -> Search
+        requires { ⌜ Advancing self (now chunk) ⌝ }
+        ensures { λ r. ⌜ r ≡ stored (fedParts self (now (chunk .entry))) ⌝ }
+    {
+        let pattern = self.pattern;
+        let len = self.pattern_len;
+        let tail = self.tail;
+        let tail_len = self.tail_len;
+        let total = self.total as usize + chunk.len();
+        let reach = len - 1;
+        let keep = if total < reach { total } else { reach };
+        let pattern_bytes = stored_pattern(&pattern[..len]);
+        let tail_bytes = next_tail(&tail[..tail_len], chunk, keep);
+        Search {
+            pattern: pattern_bytes,
+            pattern_len: len,
+            k: self.k,
+            method: self.method,
+            total: total as u32,
+            tail: tail_bytes,
+            tail_len: keep,
+        }
+    }
+
+    // A chunk more: the positions of the windows that end in it, in the list's first places.
+    pub fn feed(self, chunk: &[u8], list: &mut [u32]) -> Fed
+        ensures { λ r. ⌜ Feeds self (now (chunk .entry)) (now (list .entry)) (now (list .exit)) r ⌝ }
+    {
+        let admission = self.checked();
+        if let Admission::Refused(refusal) = admission {
+            return Fed {
+                answer: Answer::Refused(refusal),
+                search: self,
+            };
+        }
+        let limits = self.limits(chunk.len(), list.len());
+        if let Admission::Refused(refusal) = limits {
+            return Fed {
+                answer: Answer::Refused(refusal),
+                search: self,
+            };
+        }
+        let pattern = self.pattern;
+        let len = self.pattern_len;
+        let tail = self.tail;
+        let tail_len = self.tail_len;
+        let base = self.total as usize - tail_len;
+        let done = pieces::search_pieces(
+            &pattern[..len],
+            self.k,
+            self.method,
+            &tail[..tail_len],
+            chunk,
+            base,
+            list,
+        );
+        Fed {
+            answer: Answer::Listed {
+                found: done.found,
+                looks: done.looks,
+            },
+            search: self.advanced(chunk),
+        }
+    }
+
+    // What feed tests of the chunk, the list and the total: 6, 7, 8.
+    fn limits(self, chunk: usize, places: usize) -> Admission
+        ensures { λ r. ⌜ admissionNumber r ≡ limitNumber (self .total) chunk places ⌝ }
+    {
+        if Search::LONGEST_CHUNK < chunk {
+            return Admission::Refused(Refusal::TextTooLong);
+        }
+        if places < chunk {
+            return Admission::Refused(Refusal::TooFewPlaces);
+        }
+        if 4294967295 < self.total as usize + chunk {
+            return Admission::Refused(Refusal::TotalTooLarge);
+        }
+        Admission::Accepted
     }
 }
