@@ -14,6 +14,7 @@ use Rattle.jumbled.proofs.Counts.{cc-nil, cc-cons}
 use Rattle.image.specs.Decode.{Entry, entriesIn, contents, lengthIn, lengthsBefore, lengths, lengthOf, startOf, bodyOf, times, kindsRight, badForm}
 use Rattle.image.proofs.Numbers.{number-two}
 
+-- two numbers are the same, or they are not
 pub same-or-not : (a b : ℕ) → (a ≡ b) ⊎ (a ≡ b → ⊥)
 same-or-not a b = by (eqb a b) refl
   where
@@ -74,6 +75,7 @@ entriesFrom image i = entriesIn (4 - i) (drop (1 + 3 * i) image)
 abbrev pub entryAt : List ℕ → ℕ → Entry
 entryAt image i = record { kind = getD image (1 + 3 * i) 0; len = getD image (2 + 3 * i) 0 + 256 * getD image (3 + 3 * i) 0 }
 
+-- the entries from a place on: all of them, none, or one and those from the next place on
 pub from-first : (image : List ℕ) → entriesFrom image 0 ≡ contents image
 unfolding contents
 from-first image = refl
@@ -102,6 +104,25 @@ from-next image i long h =
         ap₂ (λ (low high : ℕ). low + 256 * high)
         (getD-drop 1 (drop (1 + 3 * i) image) 0 0 ∙ place 1 (2 + 3 * i) (omega arith))
         (getD-drop 1 (drop (1 + 3 * i) image) 1 0 ∙ place 2 (3 + 3 * i) (omega arith))
+
+-- the entry at a place is of a kind, or it is not
+module _ (image : List ℕ) (i : ℕ) (long : 13 ≤ length image) (more : i < 4) (kind : ℕ) where
+  pub found-here : getD image (1 + 3 * i) 0 ≡ kind
+      → (lengthsBefore kind (entriesFrom image i) ≡ 0) × (lengthIn kind (entriesFrom image i) ≡ entryAt image i .len)
+  found-here same =
+      let next = from-next image i long more in (
+        ap (lengthsBefore kind) next ∙ before-here kind (entryAt image i) (entriesFrom image (i + 1)) same,
+        ap (lengthIn kind) next ∙ length-here kind (entryAt image i) (entriesFrom image (i + 1)) same,
+      )
+
+  pub found-later : (getD image (1 + 3 * i) 0 ≡ kind → ⊥)
+      → (lengthsBefore kind (entriesFrom image i) ≡ entryAt image i .len + lengthsBefore kind (entriesFrom image (i + 1)))
+      × (lengthIn kind (entriesFrom image i) ≡ lengthIn kind (entriesFrom image (i + 1)))
+  found-later differ =
+      let next = from-next image i long more in (
+        ap (lengthsBefore kind) next ∙ before-later kind (entryAt image i) (entriesFrom image (i + 1)) differ,
+        ap (lengthIn kind) next ∙ length-later kind (entryAt image i) (entriesFrom image (i + 1)) differ,
+      )
 
 -- ---- the form
 
@@ -161,3 +182,11 @@ module _ (image : List ℕ) (f : Formed image) (kind : ℕ) where
   pub length-bodyOf : length (bodyOf kind image) ≡ lengthOf kind image
   unfolding bodyOf
   length-bodyOf = simp (length-take, length-drop) (omega (arith, body-within))
+
+-- the bodies of kinds 2 and 3
+module _ (image : List ℕ) {l : List ℕ} (form : badForm image ≡ false) where
+  pub two-bytes : l ≡ bodyOf 2 image → length l ≡ 2
+  two-bytes e = ap length e ∙ length-bodyOf image (formed image form) 2 ∙ formed image form .two
+
+  pub four-bytes : l ≡ bodyOf 3 image → length l ≡ 4
+  four-bytes e = ap length e ∙ length-bodyOf image (formed image form) 3 ∙ formed image form .four

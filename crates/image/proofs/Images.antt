@@ -41,9 +41,6 @@ size : Parts → ℕ → ℕ
 size parts kind =
     bit (eqb kind 1) * length (parts .pattern) + bit (eqb kind 2) * 2 + bit (eqb kind 3) * 4 + bit (eqb kind 4) * length (parts .tail)
 
-other : (kind n : ℕ) → (kind ≡ n → ⊥) → bit (eqb kind n) ≡ 0
-other kind n h = ap bit (ne-eqb kind n h)
-
 length-body : (parts : Parts) (kind : ℕ) → length (body parts kind) ≡ size parts kind
 unfolding body size
 length-body parts zero = omega arith
@@ -61,6 +58,7 @@ either : (Q : List ℕ → Type 0) (t : Bool) (a b : List ℕ) → Q a → Q b �
 either Q true a b qa qb = qa
 either Q false a b qa qb = qb
 
+-- every body's length fits 16 bits
 pub body-short : {parts : Parts} → Sized parts → (kind : ℕ) → length (body parts kind) < 2 ^ 16
 unfolding body
 body-short {parts} sized kind =
@@ -90,6 +88,7 @@ length-bodies parts (kind ∷ order) =
       add-mul (bit (eqb kind 4)) (cc order 4) (length (parts .tail)),
     ))
 
+-- an entry is 3 bytes
 pub length-entries : (bodyFor : ℕ → List ℕ) (order : List ℕ) → length (entries bodyFor order) ≡ 3 * length order
 unfolding each lowFirst
 length-entries bodyFor [] = refl
@@ -121,7 +120,7 @@ module _ {order : List ℕ} (parts : Parts) (o : IsOrder order) where
 
 -- ---- the contents of an image
 
--- what the entries say
+-- the entries of some parts in an order
 told : Parts → List ℕ → List Entry
 told parts order = map (λ kind. record { kind = kind; len = length (body parts kind) }) order
 
@@ -143,6 +142,7 @@ module _ {parts : Parts} (sized : Sized parts) where
   contents-image order four =
       ap (λ (n : ℕ). entriesIn n (entries (body parts) order ++ each (body parts) order)) (sym four) ∙ entries-told order (each (body parts) order)
 
+-- what the entries say: the lengths of the bodies, and each kind as often as the order has it
 lengths-told : (parts : Parts) (order : List ℕ) → lengths (told parts order) ≡ length (each (body parts) order)
 unfolding lengths told each
 lengths-told parts [] = refl
@@ -237,7 +237,12 @@ module _ {order : List ℕ} {parts : Parts} (o : IsOrder order) (sized : Sized p
   kinds-right : kindsRight (contents (image order parts)) ≡ true
   unfolding kindsRight
   kinds-right =
-      rw (once-each 1 (omega arith) (omega arith), once-each 2 (omega arith) (omega arith), once-each 3 (omega arith) (omega arith), once-each 4 (omega arith) (omega arith))
+      rw (
+        once-each 1 (omega arith) (omega arith),
+        once-each 2 (omega arith) (omega arith),
+        once-each 3 (omega arith) (omega arith),
+        once-each 4 (omega arith) (omega arith),
+      )
       refl
 
   first-byte : getD (image order parts) 0 0 ≡ 4

@@ -45,10 +45,10 @@ unfoldable pub lengths : List Entry → ℕ
 lengths [] = 0
 lengths (e ∷ es) = e .len + lengths es
 
+-- The length of the body of a kind, and where it starts: bodies stand after the first byte and the four entries, 13 bytes
 abbrev pub lengthOf : ℕ → List ℕ → ℕ
 lengthOf kind image = lengthIn kind (contents image)
 
--- Bodies stand after the first byte and the four entries, 13 bytes
 abbrev pub startOf : ℕ → List ℕ → ℕ
 startOf kind image = 13 + lengthsBefore kind (contents image)
 

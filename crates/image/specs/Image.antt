@@ -15,6 +15,7 @@ pub record Parts : Type 0 where
   pub total : ℕ
   pub tail : List ℕ
 
+-- the five parts, one by one
 abbrev pub partsWith : List ℕ → ℕ → ℕ → ℕ → List ℕ → Parts
 partsWith P k method n tail = record { pattern = P; k = k; method = method; total = n; tail = tail }
 

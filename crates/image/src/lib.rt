@@ -5,7 +5,7 @@ ghost use mathlib.Core.Bool.{not, false};
 ghost use Prim.Native.Nat.{_+_, _*_, _^_, _≤_, _<_};
 ghost use lib.ListN.{length, getD};
 ghost use Rattle.image.specs.Image.{partsWith, entry, each, entries, saveOrder};
-ghost use Rattle.image.specs.Writing.{bodyFrom, Put, Encoded};
+ghost use Rattle.image.specs.Writing.{numbersWith, bodyFrom, Put, Encoded};
 ghost use Rattle.image.specs.Decode.{contents, lengths, lengthOf, startOf, bodyOf, times, kindsRight, badForm, partsOf};
 
 // The order in which every save writes the entries and their bodies: stated here and in specs/, and nowhere else.
@@ -29,7 +29,21 @@ pub fn copy_in(source: &[u8], buffer: &mut [u8], at: usize) -> usize
     at + i
 }
 
-// The body to be saved under a kind; numbers are the six bytes of k, method and n.
+// k and method, one byte each, and the total n in four, low byte first.
+fn numbers_of(k: u8, method: u8, total: u32) -> [u8; 6]
+    ensures { λ r. ⌜ r ≡ numbersWith k method total ⌝ }
+{
+    [
+        k,
+        method,
+        (total % 256) as u8,
+        (total / 256 % 256) as u8,
+        (total / 256 / 256 % 256) as u8,
+        (total / 256 / 256 / 256 % 256) as u8,
+    ]
+}
+
+// The body to be saved under a kind; numbers are the six bytes that numbers_of gives.
 fn body_to_save<'a>(kind: u8, pattern: &'a [u8], numbers: &'a [u8], tail: &'a [u8]) -> &'a [u8]
     requires { ⌜ length (now numbers) ≡ 6 ⌝ }
     ensures { λ r. ⌜ now r ≡ bodyFrom (now (pattern .entry)) (now (numbers .entry)) (now (tail .entry)) kind ⌝ }
@@ -115,14 +129,7 @@ pub fn encode<'a>(
     requires { ⌜ (length (now pattern) ≤ 64) × (length (now tail) ≤ 64) × (13 + 6 + length (now pattern) + length (now tail) ≤ length (now buffer)) ⌝ }
     ensures { λ r. ⌜ Encoded (partsWith (now (pattern .entry)) k method total (now (tail .entry))) (now (buffer .entry)) (now (buffer .exit)) r ⌝ }
 {
-    let numbers = [
-        k,
-        method,
-        (total % 256) as u8,
-        (total / 256 % 256) as u8,
-        (total / 256 / 256 % 256) as u8,
-        (total / 256 / 256 / 256 % 256) as u8,
-    ];
+    let numbers = numbers_of(k, method, total);
     let first = [4u8];
     let at = copy_in(&first, buffer, 0);
     let start = put_entries(pattern, &numbers, tail, buffer, at);
@@ -260,7 +267,7 @@ pub fn method(image: &[u8]) -> u8
 }
 
 // A number of 32 bits from its bytes, low byte first.
-fn number_of(first: u8, second: u8, third: u8, fourth: u8) -> u32
+fn number_read(first: u8, second: u8, third: u8, fourth: u8) -> u32
     ensures { λ r. ⌜ r ≡ first + 256 * (second + 256 * (third + 256 * fourth)) ⌝ }
 {
     first as u32 + 256 * (second as u32 + 256 * (third as u32 + 256 * (fourth as u32)))
@@ -272,5 +279,5 @@ pub fn total(image: &[u8]) -> u32
     ensures { λ r. ⌜ r ≡ partsOf (now (image .entry)) .total ⌝ }
 {
     let bytes = body(image, 3);
-    number_of(bytes[0], bytes[1], bytes[2], bytes[3])
+    number_read(bytes[0], bytes[1], bytes[2], bytes[3])
 }

@@ -4,7 +4,7 @@ use mathlib.Core.List.{List}
 use Prim.Native.Nat.{ℕ, _≤_, _+_, _-_}
 use native.Mathlib.Omega.{arith}
 use lib.ListN.{length, getD, set, take, length-set}
-use lib.Seq.{take-length}
+use lib.Seq.{take-all}
 use Rattle.listing.specs.Placed.{placed}
 use Rattle.listing.proofs.Placing.{placed-nil}
 use Rattle.image.proofs.Writing.{placed-byte}
@@ -55,9 +55,8 @@ returns : tie.Need-returns Inv-loop μ-loop
 returns c =
     let start = c .before .before in
     let loop = c .before .loop in
-    let all : loop .i ≡ length (start .args .source .now) = omega arith in
     record {
-      filled = loop .inv .2 ∙ ap (placed (start .args .buffer .now) (start .args .at)) (ap (λ (n : ℕ). take n (start .args .source .now)) all ∙ take-length (start .args .source .now));
+      filled = loop .inv .2 ∙ ap (placed (start .args .buffer .now) (start .args .at)) (take-all (loop .i) (start .args .source .now) (omega arith));
       place-after = omega arith;
     }
 

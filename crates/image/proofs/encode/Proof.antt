@@ -1,29 +1,33 @@
 -- `image::encode` meets its contract: the first byte, the entries and the bodies, each put after the other.
-use mathlib.Core.Path.{refl, ap, _∙_}
+use mathlib.Core.Path.{_≡_, ap, _∙_}
 use mathlib.Core.List.{List}
-use Prim.Native.Nat.{ℕ}
-use native.Mathlib.Nat.{zero-add}
+use Prim.Native.Nat.{ℕ, _≤_}
 use native.Mathlib.Omega.{arith}
 use lib.ListN.{length}
-use Rattle.image.specs.Image.{lowFirst, body, partsWith, image, each, saveOrder}
-use Rattle.image.specs.Writing.{numbersWith, bodyFrom}
+use Rattle.image.specs.Image.{body, partsWith, each, saveOrder}
+use Rattle.image.specs.Writing.{bodyFrom}
+use Rattle.image.proofs.Numbers.{length-lowFirst}
 use Rattle.image.proofs.Images.{length-entries, length-in-order, save-order}
-use Rattle.image.proofs.Writing.{body-written, put-length, put-put}
+use Rattle.image.proofs.Writing.{body-written, put-length, put-image}
 use borrow.Author.Needs.{needs}
 use Rattle.image.proofs.encode.Statement.{statement}
 use Rattle.image.proofs.encode.Tie as tie
 
-cast-t12 : tie.Need-cast-t12
-cast-t12 c = search needs
+-- the six bytes, and the bodies with them
+six : (c : tie.After-numbers-of) → length (c .numbers-of .result) ≡ 6
+six c = let args = c .before .before .before .before .args in omega (arith, ap length (c .numbers-of .ensures), length-lowFirst 4 (args .total))
 
-cast-t15 : tie.Need-cast-t15
-cast-t15 c = search needs
+bodies-written : (c : tie.After-numbers-of)
+    → let args = c .before .before .before .before .args in
+    bodyFrom (args .pattern .now) (c .numbers-of .result) (args .tail .now)
+    ≡ body (partsWith (args .pattern .now) (args .k) (args .method) (args .total) (args .tail .now))
+bodies-written c =
+    let args = c .before .before .before .before .args in
+    ap (λ (numbers : List ℕ). bodyFrom (args .pattern .now) numbers (args .tail .now)) (c .numbers-of .ensures)
+    ∙ body-written (args .pattern .now) (args .k) (args .method) (args .total) (args .tail .now)
 
-cast-t19 : tie.Need-cast-t19
-cast-t19 c = search needs
-
-cast-t24 : tie.Need-cast-t24
-cast-t24 c = search needs
+numbers-of-requires : tie.Need-numbers-of-requires
+numbers-of-requires c κs = search needs
 
 slice-aggregate-copy-in : tie.Need-slice-aggregate-copy-in
 slice-aggregate-copy-in c = search needs
@@ -35,33 +39,33 @@ slice-aggregate-put-entries : tie.Need-slice-aggregate-put-entries
 slice-aggregate-put-entries c = search needs
 
 put-entries-requires : tie.Need-put-entries-requires
-unfolding lowFirst
 put-entries-requires c κs =
-    let args = c .before .before .before .before .before .before .before .before .before .before .args in
-    let f = bodyFrom (args .pattern .now) (numbersWith (args .k) (args .method) (args .total)) (args .tail .now) in
-    let first = c .before .before .before .before .copy-in .ensures in
-    (refl, omega (arith, length-entries f saveOrder, save-order .four, first .place-after, put-length first (omega arith)))
+    let args = c .before .before .before .before .before .before .before .before .before .before .before .args in
+    let numbers = c .before .before .before .before .before .before .before .numbers-of .result in
+    let f = bodyFrom (args .pattern .now) numbers (args .tail .now) in
+    let first = c .before .before .before .before .copy-in .ensures in (
+      six (c .before .before .before .before .before .before .before),
+      omega (arith, length-entries f saveOrder, save-order .four, first .place-after, put-length first (omega arith)),
+    )
 
 slice-aggregate-put-bodies : tie.Need-slice-aggregate-put-bodies
 slice-aggregate-put-bodies c = search needs
 
 put-bodies-requires : tie.Need-put-bodies-requires
-unfolding lowFirst
 put-bodies-requires c κs =
-    let args = c .before .before .before .before .before .before .before .before .before .before .before .before .before .before .before .args in
-    let f = bodyFrom (args .pattern .now) (numbersWith (args .k) (args .method) (args .total)) (args .tail .now) in
+    let args = c .before .before .before .before .before .before .before .before .before .before .before .before .before .before .before .before .args in
+    let numbers = c .before .before .before .before .before .before .before .before .before .before .before .before .numbers-of .result in
+    let f = bodyFrom (args .pattern .now) numbers (args .tail .now) in
     let first = c .before .before .before .before .before .before .before .before .before .copy-in .ensures in
     let second = c .before .before .before .before .put-entries .ensures in
-    let parts = partsWith (args .pattern .now) (args .k) (args .method) (args .total) (args .tail .now) in
-    let room = put-entries-requires (c .before .before .before .before .before) (c .before .before .before .before .put-entries .lifetimes) .1 in
-    let sizes = ap (λ (g : ℕ → List ℕ). length (each g saveOrder)) (body-written (args .pattern .now) (args .k) (args .method) (args .total) (args .tail .now)) in (
-      refl,
+    let room = put-entries-requires (c .before .before .before .before .before) (c .before .before .before .before .put-entries .lifetimes) .1 in (
+      six (c .before .before .before .before .before .before .before .before .before .before .before .before),
       omega (
         arith,
         length-entries f saveOrder,
         save-order .four,
-        sizes,
-        length-in-order parts save-order,
+        ap (λ (g : ℕ → List ℕ). length (each g saveOrder)) (bodies-written (c .before .before .before .before .before .before .before .before .before .before .before .before)),
+        length-in-order (partsWith (args .pattern .now) (args .k) (args .method) (args .total) (args .tail .now)) save-order,
         first .place-after,
         second .place-after,
         put-length first (omega arith),
@@ -73,24 +77,20 @@ same-length : tie.Need-same-length
 same-length c = search needs
 
 returns : tie.Need-returns
-unfolding image bodyFrom body lowFirst
 returns c =
-    let args = c .before .before .before .before .before .before .before .before .before .before .before .before .before .before .before .before .before .before .args in
-    let f = bodyFrom (args .pattern .now) (numbersWith (args .k) (args .method) (args .total)) (args .tail .now) in
-    let first = c .before .before .before .before .before .before .before .before .before .before .before .before .copy-in .ensures in
-    let second = c .before .before .before .before .before .before .before .put-entries .ensures in
-    let third = c .before .before .put-bodies .ensures in
-    let whole = put-put first (put-put second third (put-entries-requires (c .before .before .before .before .before .before .before .before) (c .before .before .before .before .before .before .before .put-entries .lifetimes) .1)) (omega arith) in
-    record { filled = whole .filled; length-given = whole .place-after ∙ zero-add _ }
+    let third = c .before .before in
+    let second = third .before .before .before .before .before in
+    let first = second .before .before .before .before .before in
+    let start = first .before .before .before .before .before .before .before in
+    let room : 1 ≤ length (start .args .buffer .now) = omega (arith, start .pre) in
+    put-image (bodies-written (first .before .before .before)) (first .copy-in .ensures) (second .put-entries .ensures) (third .put-bodies .ensures) room
+    (put-entries-requires (second .before) (second .put-entries .lifetimes) .1)
 
 pub encode-spec : {M : Type 1} → statement M
 encode-spec =
     tie.close
     (tie.spec
-    cast-t12
-    cast-t15
-    cast-t19
-    cast-t24
+    numbers-of-requires
     slice-aggregate-copy-in
     copy-in-requires
     slice-aggregate-put-entries

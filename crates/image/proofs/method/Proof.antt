@@ -3,8 +3,8 @@ use mathlib.Core.Path.{ap}
 use mathlib.Core.List.{List}
 use Prim.Native.Nat.{ℕ}
 use native.Mathlib.Omega.{arith}
-use lib.ListN.{length, getD}
-use Rattle.image.proofs.Contents.{formed, length-bodyOf}
+use lib.ListN.{getD}
+use Rattle.image.proofs.Contents.{two-bytes}
 use borrow.Author.Needs.{needs}
 use Rattle.image.proofs.method.Statement.{statement}
 use Rattle.image.proofs.method.Tie as tie
@@ -15,8 +15,7 @@ body-requires c κs = search needs
 shared-slice-read-result : tie.Need-shared-slice-read-result
 shared-slice-read-result c =
     let start = c .before .before .before in
-    let form = formed (start .args .image .now) (start .pre) in
-    omega (arith, ap length (c .before .body .ensures), length-bodyOf (start .args .image .now) form 2, form .two)
+    omega (arith, two-bytes (start .args .image .now) (start .pre) (c .before .body .ensures))
 
 returns : tie.Need-returns
 returns c = ap (λ (l : List ℕ). getD l 1 0) (c .before .body .ensures)

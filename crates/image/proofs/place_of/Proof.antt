@@ -3,7 +3,7 @@ use mathlib.Core.Path.{_≡_, sym, ap, _∙_}
 use Prim.Native.Nat.{_≤_, _+_, _-_, _*_}
 use native.Mathlib.Omega.{arith}
 use Rattle.image.specs.Decode.{lengthIn, lengthsBefore, lengthOf, startOf}
-use Rattle.image.proofs.Contents.{entriesFrom, entryAt, from-first, from-next, from-last, length-here, length-later, before-here, before-later}
+use Rattle.image.proofs.Contents.{entriesFrom, from-first, from-last, found-here, found-later}
 use Rattle.image.proofs.place_of.Statement.{statement}
 use Rattle.image.proofs.place_of.Tie as tie
 
@@ -37,20 +37,10 @@ shared-slice-read-if1 c = omega arith
 
 returns : tie.Need-returns Inv-loop μ-loop
 returns c =
-    let start = c .before .before .before .before .before .before in
-    let image = start .args .image .now in
-    let kind = start .args .kind in
+    let args = c .before .before .before .before .before .before .args in
     let loop = c .before .before .before .before .loop in
-    let next = from-next image (loop .i) (omega arith) (omega arith) in
-    let e = entryAt image (loop .i) in
-    let rest = entriesFrom image (loop .i + 1) in
-    let none = ap (lengthsBefore kind) next ∙ before-here kind e rest (c .if1 .taken) in (
-      omega arith,
-      c .before .before .length-at .ensures .0
-          ∙ sym (length-here kind e rest (c .if1 .taken))
-          ∙ sym (ap (lengthIn kind) next)
-          ∙ loop .inv .3,
-    )
+    let here = found-here (args .image .now) (loop .i) (omega arith) (omega arith) (args .kind) (c .if1 .taken) in
+    (omega arith, c .before .before .length-at .ensures .0 ∙ sym (here .1) ∙ loop .inv .3)
 
 add-start : tie.Need-add-start Inv-loop μ-loop
 add-start c = omega arith
@@ -63,30 +53,19 @@ loop-less c = omega arith
 
 loop-again : tie.Need-loop-again Inv-loop μ-loop
 loop-again c =
-    let start = c .before .before .before .before .before .before in
-    let image = start .args .image .now in
-    let kind = start .args .kind in
+    let args = c .before .before .before .before .before .before .args in
     let loop = c .before .before .before .before .loop in
-    let next = from-next image (loop .i) (omega arith) (omega arith) in
-    let e = entryAt image (loop .i) in
-    let rest = entriesFrom image (loop .i + 1) in
-    let more = ap (lengthsBefore kind) next ∙ before-later kind e rest (c .if1 .left) in (
-      omega arith,
-      omega arith,
-      omega arith,
-      sym (length-later kind e rest (c .if1 .left)) ∙ sym (ap (lengthIn kind) next) ∙ loop .inv .3,
-    )
+    let there = found-later (args .image .now) (loop .i) (omega arith) (omega arith) (args .kind) (c .if1 .left) in
+    (omega arith, omega arith, omega arith, sym (there .1) ∙ loop .inv .3)
 
 returns-2 : tie.Need-returns-2 Inv-loop μ-loop
 unfolding lengthsBefore lengthIn
 returns-2 c =
-    let start = c .before .before .before in
-    let image = start .args .image .now in
-    let kind = start .args .kind in
+    let args = c .before .before .before .args in
     let loop = c .before .loop in
-    let last = from-last image (loop .i) (omega arith) in
-    let none = ap (lengthsBefore kind) last in
-    (omega arith, sym (ap (lengthIn kind) last) ∙ loop .inv .3)
+    let last = from-last (args .image .now) (loop .i) (omega arith) in
+    let none = ap (lengthsBefore (args .kind)) last in
+    (omega arith, sym (ap (lengthIn (args .kind)) last) ∙ loop .inv .3)
 
 pub place-of-spec : {M : Type 1} → statement M
 place-of-spec =

@@ -1,11 +1,8 @@
 -- `image::put_bodies` meets its contract.
-use mathlib.Core.Path.{ap, subst}
-use mathlib.Core.List.{List}
-use Prim.Native.Nat.{ℕ, _≤_, _<_, _-_}
+use Prim.Native.Nat.{_≤_, _-_}
 use native.Mathlib.Omega.{arith}
-use lib.ListN.{length, getD}
 use Rattle.image.specs.Image.{saveOrder}
-use Rattle.image.specs.Writing.{bodyFrom, Put}
+use Rattle.image.specs.Writing.{bodyFrom}
 use Rattle.image.proofs.Images.{save-order}
 use Rattle.image.proofs.Writing.{Left, left-first, left-room, left-next, left-last}
 use Rattle.image.proofs.put_bodies.Statement.{statement}
@@ -19,7 +16,7 @@ abbrev μ-loop : tie.MeasureT-loop
 μ-loop pattern numbers tail buffer₀ start at₀ i₀ buffer at i = 4 - i
 
 loop-holds : tie.Need-loop-holds Inv-loop μ-loop
-loop-holds c = (omega arith, left-first _ _ _ _)
+loop-holds c = (omega arith, left-first)
 
 array-read-kind : tie.Need-array-read-kind Inv-loop μ-loop
 array-read-kind c = omega arith
@@ -31,10 +28,7 @@ copy-in-requires : tie.Need-copy-in-requires Inv-loop μ-loop
 unfolding saveOrder
 copy-in-requires c κs =
     let start = c .before .before .before .before .before .before .before .before in
-    let loop = c .before .before .before .loop in
-    let f = bodyFrom (start .args .pattern .now) (start .args .numbers .now) (start .args .tail .now) in
-    let more : loop .i < length saveOrder = omega (arith, save-order .four) in
-    omega (arith, left-room f saveOrder (start .args .buffer .now) (start .args .start) (loop .i) (loop .buffer) (loop .at) (loop .inv .1) more (start .pre .1), ap length (c .before .body-to-save .ensures))
+    left-room (c .before .before .before .loop .inv .1) save-order (omega arith) (start .pre .1) (c .before .body-to-save .ensures)
 
 add-i : tie.Need-add-i Inv-loop μ-loop
 add-i c = omega arith
@@ -47,21 +41,13 @@ unfolding saveOrder
 loop-again c =
     let start = c .before .before .before .before .before .before .before .before .before .before .before in
     let loop = c .before .before .before .before .before .before .loop in
-    let f = bodyFrom (start .args .pattern .now) (start .args .numbers .now) (start .args .tail .now) in
-    let more : loop .i < length saveOrder = omega (arith, save-order .four) in
-    let kind = getD saveOrder (loop .i) 0 in
-    let call = c .before .before .copy-in in
-    let made = c .before .before .before .before .body-to-save .ensures in (
-      omega arith,
-      left-next f saveOrder (start .args .buffer .now) (start .args .start) (loop .i) (loop .buffer) (loop .at) (loop .inv .1) (call .last .1 .0) (call .result) more (start .pre .1)
-          (subst (λ (l : List ℕ). Put l (loop .buffer) (call .last .1 .0) (loop .at) (call .result)) made (call .ensures)),
-    )
+    (omega arith, left-next (loop .inv .1) save-order (omega arith) (start .pre .1) (c .before .before .before .before .body-to-save .ensures) (c .before .before .copy-in .ensures))
 
 same-length : tie.Need-same-length Inv-loop μ-loop
 same-length c = c .before .loop .inv .1 .kept
 
 returns : tie.Need-returns Inv-loop μ-loop
-returns c = left-last _ _ _ _ _ _ _ (c .before .loop .inv .1) (omega (arith, save-order .four))
+returns c = left-last (c .before .loop .inv .1) save-order (omega arith)
 
 pub put-bodies-spec : {M : Type 1} → statement M
 put-bodies-spec =

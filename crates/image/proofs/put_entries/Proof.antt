@@ -1,11 +1,11 @@
 -- `image::put_entries` meets its contract.
-use mathlib.Core.Path.{subst}
+use mathlib.Core.Path.{_≡_, ap}
 use mathlib.Core.List.{List}
-use Prim.Native.Nat.{ℕ, _≤_, _<_, _-_}
+use Prim.Native.Nat.{ℕ, _≤_, _-_}
 use native.Mathlib.Omega.{arith}
 use lib.ListN.{length, getD}
 use Rattle.image.specs.Image.{lowFirst, entry, saveOrder}
-use Rattle.image.specs.Writing.{bodyFrom, Put}
+use Rattle.image.specs.Writing.{bodyFrom}
 use Rattle.image.proofs.Images.{save-order}
 use Rattle.image.proofs.Writing.{Left, left-first, left-room, left-next, left-last}
 use Rattle.image.proofs.put_entries.Statement.{statement}
@@ -13,6 +13,9 @@ use Rattle.image.proofs.put_entries.Tie as tie
 
 abbrev Entry : List ℕ → List ℕ → List ℕ → ℕ → List ℕ
 Entry pattern numbers tail kind = entry kind (length (bodyFrom pattern numbers tail kind))
+
+said : (kind : ℕ) {l m : List ℕ} → l ≡ m → entry kind (length l) ≡ entry kind (length m)
+said kind e = ap (λ (l : List ℕ). entry kind (length l)) e
 
 abbrev Inv-loop : tie.InvT-loop
 Inv-loop pattern numbers tail buffer₀ start at₀ i₀ buffer at i =
@@ -22,7 +25,7 @@ abbrev μ-loop : tie.MeasureT-loop
 μ-loop pattern numbers tail buffer₀ start at₀ i₀ buffer at i = 4 - i
 
 loop-holds : tie.Need-loop-holds Inv-loop μ-loop
-loop-holds c = (omega arith, left-first _ _ _ _)
+loop-holds c = (omega arith, left-first)
 
 array-read-kind : tie.Need-array-read-kind Inv-loop μ-loop
 array-read-kind c = omega arith
@@ -35,9 +38,8 @@ unfolding saveOrder lowFirst
 put-entry-requires c κs =
     let start = c .before .before .before .before .before .before .before .before in
     let loop = c .before .before .before .loop in
-    let f = Entry (start .args .pattern .now) (start .args .numbers .now) (start .args .tail .now) in
-    let more : loop .i < length saveOrder = omega (arith, save-order .four) in
-    omega (arith, left-room f saveOrder (start .args .buffer .now) (start .args .start) (loop .i) (loop .buffer) (loop .at) (loop .inv .1) more (start .pre .1))
+    let len = said (getD saveOrder (loop .i) 0) (c .before .body-to-save .ensures) in
+    omega (arith, left-room (loop .inv .1) save-order (omega arith) (start .pre .1) len)
 
 add-i : tie.Need-add-i Inv-loop μ-loop
 add-i c = omega arith
@@ -50,21 +52,14 @@ unfolding saveOrder
 loop-again c =
     let start = c .before .before .before .before .before .before .before .before .before .before .before in
     let loop = c .before .before .before .before .before .before .loop in
-    let f = Entry (start .args .pattern .now) (start .args .numbers .now) (start .args .tail .now) in
-    let more : loop .i < length saveOrder = omega (arith, save-order .four) in
-    let kind = getD saveOrder (loop .i) 0 in
-    let call = c .before .before .put-entry in
-    let made = c .before .before .before .before .body-to-save .ensures in (
-      omega arith,
-      left-next f saveOrder (start .args .buffer .now) (start .args .start) (loop .i) (loop .buffer) (loop .at) (loop .inv .1) (call .last .1 .1 .0) (call .result) more (start .pre .1)
-          (subst (λ (l : List ℕ). Put (entry kind (length l)) (loop .buffer) (call .last .1 .1 .0) (loop .at) (call .result)) made (call .ensures)),
-    )
+    let len = said (getD saveOrder (loop .i) 0) (c .before .before .before .before .body-to-save .ensures) in
+    (omega arith, left-next (loop .inv .1) save-order (omega arith) (start .pre .1) len (c .before .before .put-entry .ensures))
 
 same-length : tie.Need-same-length Inv-loop μ-loop
 same-length c = c .before .loop .inv .1 .kept
 
 returns : tie.Need-returns Inv-loop μ-loop
-returns c = left-last _ _ _ _ _ _ _ (c .before .loop .inv .1) (omega (arith, save-order .four))
+returns c = left-last (c .before .loop .inv .1) save-order (omega arith)
 
 pub put-entries-spec : {M : Type 1} → statement M
 put-entries-spec =

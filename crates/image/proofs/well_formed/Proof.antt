@@ -86,6 +86,7 @@ add-result c = search needs
 returns-6 : tie.Need-returns-6
 unfolding badForm
 returns-6 c =
+    let image = c .before .before .before .before .before .before .before .before .before .before .before .before .before .args .image .now in
     rw (
       past-length (c .before .before .before .before .before .before .before .before .before .before .before),
       past-first (c .before .before .before .before .before .before .before .before .before),
@@ -94,7 +95,7 @@ returns-6 c =
       equal-known 4 (c .before .before .before .place-of2 .ensures .1) (c .before .if5 .left),
       c .all-lengths .ensures .0,
     )
-    (sym (Bool·not-not (eqb (length (c .before .before .before .before .before .before .before .before .before .before .before .before .before .args .image .now)) (13 + lengths (contents (c .before .before .before .before .before .before .before .before .before .before .before .before .before .args .image .now))))))
+    (sym (Bool·not-not (eqb (length image) (13 + lengths (contents image)))))
 
 pub well-formed-spec : {M : Type 1} → statement M
 well-formed-spec =
