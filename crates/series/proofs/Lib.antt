@@ -1,0 +1,4 @@
+pub mod Reports
+pub mod Tests
+pub mod Standing
+pub mod Theorem

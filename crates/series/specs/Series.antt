@@ -1,0 +1,101 @@
+-- Every finite series of calls, and what is claimed of it: document 01, "The ledger", demand 3.
+use mathlib.Core.Path.{_≡_}
+use mathlib.Core.List.{List, [], _∷_, _++_}
+use mathlib.Core.Logic.{_⊎_}
+use Prim.Native.Nat.{ℕ, zero, suc}
+use lib.ListN.{length, take}
+use Rattle.jumbled.specs.Match.{positions}
+use Rattle.jumbled.specs.Steps.{steps}
+use Rattle.listing.specs.Placed.{placed}
+use Rattle.admit.specs.Numbers.{admissionNumber}
+use Rattle.search.specs.declared.Search.{Search}
+use Rattle.search.specs.declared.Answer.{Answer}
+use Rattle.search.specs.declared.Held.{Held}
+use Rattle.search.specs.declared.Fed.{Fed}
+use Rattle.search.specs.declared.Kept.{Kept}
+use Rattle.search.specs.Answers.{answerNumber, answerFound, answerLooks}
+use Rattle.search.specs.Whole.{Whole}
+use Rattle.search.specs.Searches.{lastOf, tailLength}
+use Rattle.search.specs.Calls.{Opened, Feeds, SetsMethod, Saves, Loads, savingNumber, savingLength}
+use Rattle.series.specs.History.{Ledger, Current, blank, holds, Copy, History, Verdict, verdict, Event, opened, fed, methodSet, saved, loaded, report, after, history}
+
+-- ---- a series of calls
+
+-- "the image of an accepted save earlier in the series, as written": these bytes are the image kept with the copy that is meant
+pub data KeptAs (bytes : List ℕ) : List Copy → ℕ → Type 0 where
+  latest : {copy : Copy} {kept : List Copy} → copy .image ≡ bytes → KeptAs bytes (copy ∷ kept) zero
+  older : {copy : Copy} {kept : List Copy} {which : ℕ} → KeptAs bytes kept which → KeptAs bytes (copy ∷ kept) (suc which)
+
+-- The image that a save wrote into its buffer, which then holds `after`: as many of its first bytes as the save says
+abbrev pub written : List ℕ → Kept → List ℕ
+written after r = take (savingLength (r .saving)) after
+
+-- A series of calls on the fresh search for P, k and method: the search that the last call handed back, and what the history is told, the
+-- latest call first. Of each call its contract's record is known and nothing else; "each call but open and load gets the search that the
+-- last one handed back".
+pub data Run (P : List ℕ) (k method : ℕ) : Search → List Event → Type 0 where
+  -- "A fresh search is one that an accepted open gives."
+  fresh : {r : Held} → Opened P k method r → admissionNumber (r .admission) ≡ 0 → Run P k method (r .search) []
+  opens : {s : Search} {events : List Event} → Run P k method s events
+      → {P′ : List ℕ} {k′ method′ : ℕ} {r : Held} → Opened P′ k′ method′ r
+      → Run P k method (r .search) (opened P′ k′ method′ (verdict (admissionNumber (r .admission))) ∷ events)
+  feeds : {s : Search} {events : List Event} → Run P k method s events
+      → {chunk before after : List ℕ} {r : Fed} → Feeds s chunk before after r
+      → Run P k method (r .search) (fed chunk (verdict (answerNumber (r .answer))) ∷ events)
+  sets : {s : Search} {events : List Event} → Run P k method s events
+      → {method′ : ℕ} {r : Held} → SetsMethod s method′ r
+      → Run P k method (r .search) (methodSet method′ (verdict (admissionNumber (r .admission))) ∷ events)
+  saves : {s : Search} {events : List Event} → Run P k method s events
+      → {before after : List ℕ} {r : Kept} → Saves s before after r
+      → Run P k method (r .search) (saved (written after r) (verdict (savingNumber (r .saving))) ∷ events)
+  -- "Load: it gets the image of an accepted save earlier in the series, as written, or bytes that it refuses."
+  loads : {s : Search} {events : List Event} → Run P k method s events
+      → {bytes : List ℕ} {which : ℕ} {r : Held} → Loads bytes r
+      → KeptAs bytes (history P k method events .kept) which ⊎ (admissionNumber (r .admission) ≡ 0 → ⊥)
+      → Run P k method (r .search) (loaded bytes which (verdict (admissionNumber (r .admission))) ∷ events)
+
+-- ---- what is claimed
+
+-- Of an accepted feed, by the ledger before it
+pub record Reports (L : Ledger) (chunk before after : List ℕ) (r : Fed) : Type 0 where
+  -- "the positions that an accepted feed puts in its list are its report in the ledger, in that order,
+  pub list : after ≡ placed before 0 (report L chunk)
+  -- and its number found is the report's length.
+  pub found : answerFound (r .answer) ≡ length (report L chunk)
+  -- Its looks are those of the ledger's method over the last min(n, m − 1) readings of the record before it, n being that record's
+  -- length, followed by the piece."
+  pub looks :
+      answerLooks (r .answer)
+      ≡ steps (L .pattern) (L .k) (L .method) (lastOf (tailLength (length (L .pattern)) (length (L .text))) (L .text) ++ chunk) .inspections
+
+-- Of any feed, by the history before it
+pub record FedRight (h : History) (chunk before after : List ℕ) (r : Fed) : Type 0 where
+  pub reports : (L : Ledger) → h .current ≡ holds L → answerNumber (r .answer) ≡ 0 → Reports L chunk before after r
+  -- blank: "Until then feed, set method and save are refused with 1."
+  pub while-blank : h .current ≡ blank → answerNumber (r .answer) ≡ 1
+
+-- "After every call, unless the ledger is blank,
+pub record Agrees (L : Ledger) : Type 0 where
+  -- the reports are the listed positions of the record,
+  pub reported : L .reported ≡ positions (L .pattern) (L .k) (L .text)
+  -- and those of every accepted whole search of it with the ledger's P and k, whatever its method."
+  pub whole-list : (method : ℕ) (before after : List ℕ) (r : Answer) → Whole (L .pattern) (L .k) method (L .text) before after r
+      → answerNumber r ≡ 0 → after ≡ placed before 0 (L .reported)
+  pub whole-found : (method : ℕ) (before after : List ℕ) (r : Answer) → Whole (L .pattern) (L .k) method (L .text) before after r
+      → answerNumber r ≡ 0 → answerFound r ≡ length (L .reported)
+
+abbrev pub AfterCall : History → Type 0
+AfterCall h = (L : Ledger) → h .current ≡ holds L → Agrees L
+
+-- "This is a single claim about the whole series, not one for each call."
+unfoldable pub Right : {P : List ℕ} {k method : ℕ} {s : Search} {events : List Event} → Run P k method s events → Type 0
+Right {P} {k} {method} (fresh told ok) = AfterCall (history P k method [])
+Right {P} {k} {method} {events = events} (opens run told) = Right run × AfterCall (history P k method events)
+Right {P} {k} {method} {events = events} (feeds {events = past} run {chunk} {before} {after} {r} told) =
+    Right run × FedRight (history P k method past) chunk before after r × AfterCall (history P k method events)
+Right {P} {k} {method} {events = events} (sets {events = past} run {r = r} told) =
+    Right run × (history P k method past .current ≡ blank → admissionNumber (r .admission) ≡ 1) × AfterCall (history P k method events)
+Right {P} {k} {method} {events = events} (saves {events = past} run {r = r} told) =
+    Right run × (history P k method past .current ≡ blank → savingNumber (r .saving) ≡ 1) × AfterCall (history P k method events)
+Right {P} {k} {method} {events = events} (loads {events = past} run {bytes} {which} {r} told got) =
+    Right run × (KeptAs bytes (history P k method past .kept) which → admissionNumber (r .admission) ≡ 0) × AfterCall (history P k method events)
