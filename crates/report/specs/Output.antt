@@ -8,6 +8,7 @@ use lib.Dec.{ltb, eqb}
 use lib.ListN.{length}
 use Rattle.jumbled.specs.Match.{positions}
 use Rattle.jumbled.specs.Steps.{steps}
+use Rattle.jumbled.specs.Refusals.{given, patternTests}
 use Rattle.report.specs.Request.{zeroDigit, methodOf, toleranceOf, patternOf, textOf, requestRefusal}
 
 -- A text's letters as their ASCII codes
@@ -52,6 +53,13 @@ outputText P k method listed looks = header P k method ++ positionLines listed +
 -- "A refusal prints one line only, such as `refused 11`."
 unfoldable pub refusalText : ℕ → List ℕ
 refusalText number = ascii "refused " ++ numberLine number
+
+-- What is printed for a request with a good first line: 1 to 5, or what was found
+unfoldable pub answerText : List ℕ → ℕ → ℕ → List ℕ → List ℕ
+answerText P k method T =
+    cond (eqb (given (patternTests P k method)) 0)
+    (outputText P k method (positions P k T) (steps P k method T .inspections))
+    (refusalText (given (patternTests P k method)))
 
 -- ---- what the program prints for an input
 
