@@ -12,8 +12,9 @@ use Rattle.jumbled.specs.Steps.{steps}
 use Rattle.jumbled.specs.Refusals.{programTests}
 use Rattle.jumbled.proofs.Admission.{given-none, Admitted, admitted}
 use Rattle.jumbled.proofs.Sums.{below-or-not}
+use Rattle.listing.proofs.Placing.{length-placed}
 use Rattle.report.specs.Request.{after, before, methodOf, toleranceOf, patternOf, textOf, tooLong, badLine, requestRefusal}
-use Rattle.report.specs.Output.{outputText, output}
+use Rattle.report.specs.Output.{outputText, output, Reported}
 use Rattle.report.specs.Parsing.{part}
 use Rattle.report.proofs.Cuts.{after-drop}
 use Rattle.report.proofs.Texts.{less-shorter}
@@ -123,3 +124,14 @@ output-room input =
     refused l =
         rw (output-refused input (λ (e : requestRefusal input ≡ 0). omega arith))
         (omega (arith, refusal-most (requestRefusal input) (omega (arith, refusal-below input))))
+
+-- so what is printed lies within a buffer of 98,560 bytes
+pub output-inside : {input before after : List ℕ} {n : ℕ} → Reported input before after n → length before ≡ 98560 → n ≤ length after
+output-inside {input} {before} reported long =
+    omega (
+      arith,
+      output-room input,
+      reported .length-is,
+      ap length (reported .filled),
+      length-placed before 0 (output input) (omega (arith, output-room input)),
+    )

@@ -2,6 +2,7 @@
 use Prim.Native.Nat.{ℕ, zero, suc, _+_, _/_, _%_}
 use Prim.Native.Char.{code}
 use Prim.Native.String as Text
+use mathlib.Core.Path.{_≡_}
 use mathlib.Core.Bool.{cond}
 use mathlib.Core.List.{List, [], _∷_, _++_}
 use lib.Dec.{ltb, eqb}
@@ -9,6 +10,7 @@ use lib.ListN.{length}
 use Rattle.jumbled.specs.Match.{positions}
 use Rattle.jumbled.specs.Steps.{steps}
 use Rattle.jumbled.specs.Refusals.{given, patternTests}
+use Rattle.listing.specs.Placed.{placed}
 use Rattle.report.specs.Request.{zeroDigit, methodOf, toleranceOf, patternOf, textOf, requestRefusal}
 
 -- A text's letters as their ASCII codes
@@ -70,3 +72,8 @@ output input =
     (positions (patternOf input) (toleranceOf input) (textOf input))
     (steps (patternOf input) (toleranceOf input) (methodOf input) (textOf input) .inspections))
     (refusalText (requestRefusal input))
+
+-- The output stands in the buffer's first bytes, every other place is as it was, and r says how many bytes it has
+pub record Reported (input before after : List ℕ) (r : ℕ) : Type 0 where
+  pub length-is : r ≡ length (output input)
+  pub filled : after ≡ placed before 0 (output input)

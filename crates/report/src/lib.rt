@@ -4,10 +4,9 @@ ghost use mathlib.Core.Bool.{true};
 ghost use mathlib.Core.List.{_++_};
 ghost use Prim.Native.Nat.{_+_, _≤_};
 ghost use lib.ListN.{length, take};
-ghost use Rattle.listing.specs.Placed.{placed};
 ghost use Rattle.admit.specs.Numbers.{numberOf};
 ghost use Rattle.report.specs.Request.{before, digit, methodForm, toleranceForm, spelled};
-ghost use Rattle.report.specs.Output.{decimal, numberLine, header, positionLines, counts, outputText, refusalText, answerText, output};
+ghost use Rattle.report.specs.Output.{decimal, numberLine, header, positionLines, counts, outputText, refusalText, answerText, output, Reported};
 ghost use Rattle.report.specs.Buffer.{Written};
 ghost use Rattle.report.specs.Parsing.{Parses, LineRead, TextEnds};
 use admit::Refusal;
@@ -338,8 +337,7 @@ fn answer(input: &[u8], buffer: &mut [u8]) -> usize
 
 // The program's output for an input, in the buffer's first bytes; says how many they are. No output is longer than 98,416 bytes.
 pub fn report(input: &[u8], buffer: &mut [u8; 98560]) -> usize
-    ensures { λ r. ⌜ r ≡ length (output (now (input .entry))) ⌝ }
-    ensures { λ r. ⌜ now (buffer .exit) ≡ placed (now (buffer .entry)) 0 (output (now (input .entry))) ⌝ }
+    ensures { λ r. ⌜ Reported (now (input .entry)) (now (buffer .entry)) (now (buffer .exit)) r ⌝ }
 {
     answer(input, buffer)
 }
