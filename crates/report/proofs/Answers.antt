@@ -2,7 +2,8 @@
 use mathlib.Core.Path.{_≡_, refl, sym, ap, ap₂, _∙_}
 use mathlib.Core.Bool.{Bool, true, false, cond, true≢false}
 use mathlib.Core.List.{List, [], _∷_}
-use Prim.Native.Nat.{ℕ, _+_, _*_, _-_, _/_, _%_, _≤_, _<_}
+use Prim.Native.Nat.{ℕ, suc, _+_, _*_, _-_, _/_, _%_, _≤_, _<_}
+use native.Mathlib.Nat.{suc-ne-zero}
 use native.Mathlib.Omega.{arith}
 use lib.Dec.{lit<}
 use borrow.Author.Tests.{eq-eqb, ne-eqb, eqb-false}
@@ -10,7 +11,7 @@ use Rattle.jumbled.specs.Match.{positions}
 use Rattle.jumbled.specs.Steps.{steps}
 use Rattle.jumbled.specs.Refusals.{Test, given, methodTests, patternTests, programTests}
 use Rattle.report.specs.Request.{toleranceForm, spelled, methodField, toleranceField, goodLine, methodOf, toleranceOf, patternOf, textOf, tooLong, badLine, requestRefusal}
-use Rattle.report.specs.Output.{decimal, outputText, refusalText, output}
+use Rattle.report.specs.Output.{decimal, outputText, refusalText, answerText, output}
 use Rattle.report.specs.Parsing.{Asked, refusedWith, asked, meaning, part, Parses}
 use Rattle.report.specs.declared.Parsed.{Parsed}
 use Rattle.report.specs.declared.Parsed.the-variants.{TooLong, BadLine, Request}
@@ -40,6 +41,10 @@ module _ (input : List ℕ) where
   unfolding output
   output-refused h = rw (ne-eqb (requestRefusal input) 0 h) refl
 
+  pub output-given : (n : ℕ) → requestRefusal input ≡ suc n → output input ≡ refusalText (suc n)
+  output-given n e =
+      output-refused (λ (q : requestRefusal input ≡ 0). suc-ne-zero n (sym e ∙ q)) ∙ ap refusalText e
+
   pub output-found : requestRefusal input ≡ 0
       → output input
       ≡ outputText (patternOf input) (toleranceOf input) (methodOf input)
@@ -47,6 +52,12 @@ module _ (input : List ℕ) where
       (steps (patternOf input) (toleranceOf input) (methodOf input) (textOf input) .inspections)
   unfolding output
   output-found h = rw (eq-eqb (requestRefusal input) 0 h) refl
+
+  -- past 6 and 11, what is printed is what the request asks for
+  pub output-answer : tooLong input ≡ false → badLine input ≡ false
+      → output input ≡ answerText (patternOf input) (toleranceOf input) (methodOf input) (textOf input)
+  unfolding output answerText
+  output-answer e h = rw (refusal-good e h) refl
 
 -- every refusal of the program has a number below 12
 abbrev Below : List Test → Type 0
@@ -129,6 +140,13 @@ module _ (input : List ℕ) where
         pattern-is = ap (λ (a : Asked). a .pattern) fields;
         text-is = ap (λ (a : Asked). a .text) fields;
       }
+
+  -- and what is printed for a request that `parse` reads
+  pub request-output : {method k from lineEnd end : ℕ} → Requested method k from lineEnd end
+      → output input ≡ answerText (part input from lineEnd) k method (part input (lineEnd + 1) end)
+  request-output q =
+      output-answer input (q .short) (q .good)
+      ∙ rw (q .pattern-is, q .text-is, q .k-is, q .method-is) refl
 
 -- ---- a field that has its form is the decimal of its number
 

@@ -9,4 +9,6 @@ pub mod Texts
 pub mod Requests
 pub mod Answers
 pub mod Example
+pub mod Looks
 pub mod Room
+pub mod Founds

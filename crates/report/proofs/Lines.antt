@@ -5,7 +5,7 @@ use Prim.Native.Nat.{ℕ, suc, _+_, _*_, _-_, _≤_, _<_}
 use native.Mathlib.Numerals.{add-one}
 use native.Mathlib.Omega.{arith}
 use lib.ListN.{length, getD, take, drop, length-append}
-use lib.Seq.{take-suc, take-add}
+use lib.Seq.{length-take-le, take-suc, take-add}
 use Rattle.report.specs.Output.{ascii, decimal, numberLine, header, positionLines, counts, refusalText, outputText}
 use Rattle.report.proofs.Decimals.{length-decimal}
 
@@ -20,6 +20,13 @@ pub counts-parts : (found looks : ℕ)
     → counts found looks ≡ (ascii "found " ++ decimal found) ++ (ascii " looks " ++ numberLine looks)
 unfolding counts
 counts-parts found looks = simp append-assoc
+
+-- the header, the lines of the first `found` numbers of a list, and the counts
+pub found-parts : (P : List ℕ) (k method : ℕ) (S : List ℕ) (found looks : ℕ) → found ≤ length S
+    → outputText P k method (take found S) looks
+    ≡ (header P k method ++ positionLines (take found S)) ++ counts found looks
+unfolding outputText
+found-parts P k method S found looks h = rw (length-take-le found S h) (simp append-assoc)
 
 -- ---- the positions
 

@@ -1,7 +1,8 @@
--- How much the program prints: a buffer of 98,416 bytes has room for the output of every input that is not refused.
+-- How much the program prints: a buffer of 98,416 bytes has room for the output of every input.
 use mathlib.Core.Path.{_≡_, ap}
 use mathlib.Core.Bool.{Bool, true, false, cond}
 use mathlib.Core.List.{List, _∷_}
+use mathlib.Core.Logic.{⊎-elim}
 use Prim.Native.Nat.{ℕ, zero, suc, _+_, _-_, _≤_, _<_}
 use native.Mathlib.Omega.{arith}
 use lib.ListN.{length, getD, length-drop}
@@ -10,12 +11,16 @@ use Rattle.jumbled.specs.Match.{select, positions}
 use Rattle.jumbled.specs.Steps.{steps}
 use Rattle.jumbled.specs.Refusals.{programTests}
 use Rattle.jumbled.proofs.Admission.{given-none, Admitted, admitted}
+use Rattle.jumbled.proofs.Sums.{below-or-not}
+use Rattle.listing.proofs.Placing.{length-placed}
 use Rattle.report.specs.Request.{after, before, methodOf, toleranceOf, patternOf, textOf, tooLong, badLine, requestRefusal}
-use Rattle.report.specs.Output.{output}
+use Rattle.report.specs.Output.{outputText, output, Reported}
+use Rattle.report.specs.Parsing.{part}
 use Rattle.report.proofs.Cuts.{after-drop}
 use Rattle.report.proofs.Texts.{less-shorter}
-use Rattle.report.proofs.Lines.{output-most}
-use Rattle.report.proofs.Answers.{output-found}
+use Rattle.report.proofs.Lines.{output-most, refusal-most}
+use Rattle.report.proofs.Answers.{Requested, output-found, output-refused, refusal-below}
+use Rattle.report.proofs.Looks.{steps-few}
 
 -- ---- the positions are few, and small
 
@@ -79,25 +84,54 @@ taken input e =
       request = admitted (patternOf input) (toleranceOf input) (methodOf input) (eleventh .1);
     }
 
-pub output-room : (input : List ℕ) → requestRefusal input ≡ 0
-    → steps (patternOf input) (toleranceOf input) (methodOf input) (textOf input) .inspections < 4294967296
-    → length (output input) ≤ 98416
-output-room input e looks =
-    let t = taken input e in
-    let P = patternOf input in
-    let k = toleranceOf input in
-    let method = methodOf input in
-    let T = textOf input in
-    let some = t .request .some in
-    let short = t .request .short in
-    let within = t .request .within in
-    let most = t .request .taken .most in
+-- the text of a request is no longer than the longest input
+pub request-fits : (input : List ℕ) {method k from lineEnd end : ℕ} → Requested input method k from lineEnd end
+    → length (part input (lineEnd + 1) end) ≤ 16384
+unfolding tooLong
+request-fits input q =
+    let short = ltb-false 16384 (length input) (q .short) in
+    omega (arith, ap length (q .text-is), text-shorter input)
+
+-- ---- room for what is found, and for every output
+
+pub found-room : (P : List ℕ) (k method : ℕ) (T : List ℕ) → Admitted P k method → length T ≤ 16384
+    → length (outputText P k method (positions P k T) (steps P k method T .inspections)) ≤ 98416
+found-room P k method T request fits =
+    let some = request .some in
+    let short = request .short in
+    let within = request .within in
+    let most = request .taken .most in
     let few = positions-few P k T in
-    let text = text-shorter input in
-    let fits = t .short in
+    let looks = steps-few P k method T request in
     omega (
       arith,
-      ap length (output-found input e),
       output-most P k method (positions P k T) (steps P k method T .inspections) short (omega arith) (omega arith)
-          (positions-below P k T 100000 (omega arith)) (omega arith) looks,
+          (positions-below P k T 100000 (omega arith)) (omega arith) (omega arith),
+    )
+
+pub output-room : (input : List ℕ) → length (output input) ≤ 98416
+output-room input =
+    ⊎-elim (λ (l : requestRefusal input < 1). answered (omega arith)) (λ (l : 1 ≤ requestRefusal input). refused l) (below-or-not (requestRefusal input) 1)
+  where
+    answered : requestRefusal input ≡ 0 → length (output input) ≤ 98416
+    answered e =
+        let t = taken input e in
+        let fits = t .short in
+        rw (output-found input e)
+        (found-room (patternOf input) (toleranceOf input) (methodOf input) (textOf input) (t .request) (omega (arith, text-shorter input)))
+
+    refused : 1 ≤ requestRefusal input → length (output input) ≤ 98416
+    refused l =
+        rw (output-refused input (λ (e : requestRefusal input ≡ 0). omega arith))
+        (omega (arith, refusal-most (requestRefusal input) (omega (arith, refusal-below input))))
+
+-- so what is printed lies within a buffer of 98,560 bytes
+pub output-inside : {input before after : List ℕ} {n : ℕ} → Reported input before after n → length before ≡ 98560 → n ≤ length after
+output-inside {input} {before} reported long =
+    omega (
+      arith,
+      output-room input,
+      reported .length-is,
+      ap length (reported .filled),
+      length-placed before 0 (output input) (omega (arith, output-room input)),
     )

@@ -2,12 +2,15 @@
 use Prim.Native.Nat.{ℕ, zero, suc, _+_, _/_, _%_}
 use Prim.Native.Char.{code}
 use Prim.Native.String as Text
+use mathlib.Core.Path.{_≡_}
 use mathlib.Core.Bool.{cond}
 use mathlib.Core.List.{List, [], _∷_, _++_}
 use lib.Dec.{ltb, eqb}
 use lib.ListN.{length}
 use Rattle.jumbled.specs.Match.{positions}
 use Rattle.jumbled.specs.Steps.{steps}
+use Rattle.jumbled.specs.Refusals.{given, patternTests}
+use Rattle.listing.specs.Placed.{placed}
 use Rattle.report.specs.Request.{zeroDigit, methodOf, toleranceOf, patternOf, textOf, requestRefusal}
 
 -- A text's letters as their ASCII codes
@@ -53,6 +56,13 @@ outputText P k method listed looks = header P k method ++ positionLines listed +
 unfoldable pub refusalText : ℕ → List ℕ
 refusalText number = ascii "refused " ++ numberLine number
 
+-- What is printed for a request with a good first line: 1 to 5, or what was found
+unfoldable pub answerText : List ℕ → ℕ → ℕ → List ℕ → List ℕ
+answerText P k method T =
+    cond (eqb (given (patternTests P k method)) 0)
+    (outputText P k method (positions P k T) (steps P k method T .inspections))
+    (refusalText (given (patternTests P k method)))
+
 -- ---- what the program prints for an input
 
 unfoldable pub output : List ℕ → List ℕ
@@ -62,3 +72,8 @@ output input =
     (positions (patternOf input) (toleranceOf input) (textOf input))
     (steps (patternOf input) (toleranceOf input) (methodOf input) (textOf input) .inspections))
     (refusalText (requestRefusal input))
+
+-- The output stands in the buffer's first bytes, every other place is as it was, and r says how many bytes it has
+pub record Reported (input before after : List ℕ) (r : ℕ) : Type 0 where
+  pub length-is : r ≡ length (output input)
+  pub filled : after ≡ placed before 0 (output input)

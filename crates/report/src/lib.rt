@@ -4,10 +4,13 @@ ghost use mathlib.Core.Bool.{true};
 ghost use mathlib.Core.List.{_++_};
 ghost use Prim.Native.Nat.{_+_, _≤_};
 ghost use lib.ListN.{length, take};
+ghost use Rattle.admit.specs.Numbers.{numberOf};
 ghost use Rattle.report.specs.Request.{before, digit, methodForm, toleranceForm, spelled};
-ghost use Rattle.report.specs.Output.{decimal, numberLine, header, positionLines, counts, refusalText};
+ghost use Rattle.report.specs.Output.{decimal, numberLine, header, positionLines, counts, outputText, refusalText, answerText, output, Reported};
 ghost use Rattle.report.specs.Buffer.{Written};
 ghost use Rattle.report.specs.Parsing.{Parses, LineRead, TextEnds};
+use admit::Refusal;
+use search::Answer;
 
 // The longest input that the program takes.
 const LONGEST_INPUT: usize = 16384;
@@ -249,4 +252,92 @@ pub fn write_counts(found: usize, looks: usize, buffer: &mut [u8], at: usize) ->
 {
     let found_end = write_labeled(b"found ", found, buffer, at);
     write_labeled_line(b" looks ", looks, buffer, found_end)
+}
+
+// Writes what was found: the header, the first `found` positions of the list, and the two counts.
+fn write_found(
+    pattern: &[u8],
+    k: u8,
+    method: u8,
+    list: &[u32],
+    found: usize,
+    looks: usize,
+    buffer: &mut [u8],
+) -> usize
+    requires { ⌜ (found ≤ length (now list)) × (length (outputText (now pattern) k method (take found (now list)) looks) ≤ length (now buffer)) ⌝ }
+    ensures { λ r. ⌜ Written (now (buffer .entry)) 0 (outputText (now (pattern .entry)) k method (take found (now (list .entry))) looks) (now (buffer .exit)) r ⌝ }
+{
+    let header_end = write_header(pattern, method, k, buffer, 0);
+    let positions_end = write_positions(list, found, buffer, header_end);
+    write_counts(found, looks, buffer, positions_end)
+}
+
+// The number that document 01 gives a refusal.
+fn number_of(refusal: Refusal) -> usize
+    ensures { λ r. ⌜ r ≡ numberOf refusal ⌝ }
+{
+    match refusal {
+        Refusal::PatternLength => 1,
+        Refusal::ToleranceTooLarge => 2,
+        Refusal::UnknownMethod => 3,
+        Refusal::ToleranceNotTaken => 4,
+        Refusal::FieldsTooWide => 5,
+        Refusal::TextTooLong => 6,
+        Refusal::TooFewPlaces => 7,
+        Refusal::TotalTooLarge => 8,
+        Refusal::Malformed => 9,
+        Refusal::BufferTooShort => 10,
+        Refusal::BadRequest => 11,
+    }
+}
+
+// Answers a request. The list has a place for each byte of the longest input, so a whole search never lacks places.
+fn answer_request(pattern: &[u8], k: u8, method: u8, text: &[u8], buffer: &mut [u8]) -> usize
+    requires { ⌜ (length (now text) ≤ 16384) × (98416 ≤ length (now buffer)) ⌝ }
+    ensures { λ r. ⌜ Written (now (buffer .entry)) 0 (answerText (now (pattern .entry)) k method (now (text .entry))) (now (buffer .exit)) r ⌝ }
+{
+    let mut list = [0u32; LONGEST_INPUT];
+    match search::whole(pattern, k, method, text, &mut list) {
+        Answer::Refused(refusal) => write_refusal(number_of(refusal), buffer, 0),
+        Answer::Listed { found, looks } => write_found(
+            pattern,
+            k,
+            method,
+            &list,
+            found,
+            looks,
+            buffer,
+        ),
+    }
+}
+
+// Answers an input into a buffer that has room for every output.
+fn answer(input: &[u8], buffer: &mut [u8]) -> usize
+    requires { ⌜ 98416 ≤ length (now buffer) ⌝ }
+    ensures { λ r. ⌜ Written (now (buffer .entry)) 0 (output (now (input .entry))) (now (buffer .exit)) r ⌝ }
+{
+    match parse(input) {
+        Parsed::TooLong => write_refusal(6, buffer, 0),
+        Parsed::BadLine => write_refusal(11, buffer, 0),
+        Parsed::Request {
+            method,
+            k,
+            from,
+            line_end,
+            end,
+        } => answer_request(
+            &input[from..line_end],
+            k,
+            method,
+            &input[line_end + 1..end],
+            buffer,
+        ),
+    }
+}
+
+// The program's output for an input, in the buffer's first bytes; says how many they are. No output is longer than 98,416 bytes.
+pub fn report(input: &[u8], buffer: &mut [u8; 98560]) -> usize
+    ensures { λ r. ⌜ Reported (now (input .entry)) (now (buffer .entry)) (now (buffer .exit)) r ⌝ }
+{
+    answer(input, buffer)
 }
