@@ -7,6 +7,7 @@ use native.Mathlib.Omega.{arith}
 use lib.Dec.{eqb, ltb}
 use lib.ListN.{length}
 use borrow.Author.Tests.{lt-ltb, le-ltb, ltb-false, eqb-true, not-false}
+use Rattle.jumbled.specs.Match.{Bytes}
 use Rattle.jumbled.specs.Refusals.{Test, test, given, patternTests, methodTests, searchTests, setMethodTests}
 use Rattle.jumbled.proofs.Admission.{Numbered, none, next, given-none, given-append, given-append-none, numbered-append, pattern-numbered}
 use Rattle.admit.specs.Numbers.{numberOf, admissionNumber}
@@ -65,6 +66,13 @@ sound s e =
       admits = rest .0;
       tail-right = eqb-true (s .«tail_len») (tailLength (s .«pattern_len») (s .total)) (not-false _ (given-none 8 _ _ (rest .1) .0));
     }
+
+-- the stored bytes of a search handed in
+pub record Stored (held : Search) : Type 0 where
+  pub pattern-long : length (held .pattern) ≡ 64
+  pub tail-long : length (held .tail) ≡ 63
+  pub pattern-bytes : Bytes (held .pattern)
+  pub tail-bytes : Bytes (held .tail)
 
 -- ---- open
 

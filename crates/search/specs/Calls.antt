@@ -136,6 +136,15 @@ pub record Saves (s : Search) (before after : List ℕ) (r : Kept) : Type 0 wher
 abbrev pub badTailIn : Parts → Bool
 badTailIn parts = not (eqb (length (parts .tail)) (tailLength (length (parts .pattern)) (parts .total)))
 
+-- 1 to 5 of what it holds, then 9 for the tail
+unfoldable pub partsNumber : Parts → ℕ
+partsNumber parts = given (searchTests (parts .pattern) (parts .k) (parts .method) (badTailIn parts))
+
+-- The search with these parts, or the blank one
+pub record HeldWith (parts : Parts) (r : Held) : Type 0 where
+  pub number : admissionNumber (r .admission) ≡ partsNumber parts
+  pub search : r .search ≡ unlessRefused (partsNumber parts) (stored parts) blank
+
 unfoldable pub loadNumber : List ℕ → ℕ
 loadNumber bytes =
     given (loadTests (badForm bytes) (partsOf bytes .pattern) (partsOf bytes .k) (partsOf bytes .method) (badTailIn (partsOf bytes)))

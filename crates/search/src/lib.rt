@@ -5,9 +5,10 @@ ghost use mathlib.Core.List.{_++_};
 ghost use Prim.Native.Nat.{_+_, _≤_};
 ghost use lib.ListN.{length};
 ghost use Rattle.search.specs.Whole.{Whole};
+ghost use Rattle.image.specs.Image.{partsWith};
 ghost use Rattle.admit.specs.Numbers.{admissionNumber};
 ghost use Rattle.search.specs.Searches.{padded, stored, lastOf};
-ghost use Rattle.search.specs.Calls.{handedNumber, Opened, Advancing, fedParts, limitNumber, Feeds, SetsMethod};
+ghost use Rattle.search.specs.Calls.{handedNumber, Opened, Advancing, fedParts, limitNumber, Feeds, SetsMethod, Saves, HeldWith, Loads};
 use admit::Admission;
 use admit::Refusal;
 
@@ -273,5 +274,98 @@ impl Search {
             return Admission::Refused(Refusal::TotalTooLarge);
         }
         Admission::Accepted
+    }
+
+    // The search's image in the buffer's first bytes, and the search as it came.
+    pub fn save(self, buffer: &mut [u8]) -> Kept
+        ensures { λ r. ⌜ Saves self (now (buffer .entry)) (now (buffer .exit)) r ⌝ }
+    {
+        let admission = self.checked();
+        if let Admission::Refused(refusal) = admission {
+            return Kept {
+                saving: Saving::Refused(refusal),
+                search: self,
+            };
+        }
+        let pattern = self.pattern;
+        let len = self.pattern_len;
+        let tail = self.tail;
+        let tail_len = self.tail_len;
+        if buffer.len() < image::image_length(len, tail_len) {
+            return Kept {
+                saving: Saving::Refused(Refusal::BufferTooShort),
+                search: self,
+            };
+        }
+        let written = image::encode(
+            &pattern[..len],
+            self.k,
+            self.method,
+            self.total,
+            &tail[..tail_len],
+            buffer,
+        );
+        Kept {
+            saving: Saving::Written(written),
+            search: self,
+        }
+    }
+
+    // The search with these parts, if they pass the tests of a search: 1 to 5, then 9.
+    fn with_parts(pattern: &[u8], k: u8, method: u8, total: u32, tail: &[u8]) -> Held
+        ensures { λ r. ⌜ HeldWith (partsWith (now (pattern .entry)) k method total (now (tail .entry))) r ⌝ }
+    {
+        let admission = admit::admit(pattern, k, method);
+        if let Admission::Refused(refusal) = admission {
+            return Held {
+                admission: Admission::Refused(refusal),
+                search: Search::BLANK,
+            };
+        }
+        let reach = pattern.len() - 1;
+        let expected = if (total as usize) < reach {
+            total as usize
+        } else {
+            reach
+        };
+        if tail.len() != expected {
+            return Held {
+                admission: Admission::Refused(Refusal::Malformed),
+                search: Search::BLANK,
+            };
+        }
+        let pattern_bytes = stored_pattern(pattern);
+        let tail_bytes = next_tail(&tail[..0], tail, tail.len());
+        Held {
+            admission: Admission::Accepted,
+            search: Search {
+                pattern: pattern_bytes,
+                pattern_len: pattern.len(),
+                k,
+                method,
+                total,
+                tail: tail_bytes,
+                tail_len: tail.len(),
+            },
+        }
+    }
+
+    // The search that an image holds, whatever the order of its entries.
+    pub fn load(bytes: &[u8]) -> Held
+        ensures { λ r. ⌜ Loads (now (bytes .entry)) r ⌝ }
+    {
+        if !image::well_formed(bytes) {
+            return Held {
+                admission: Admission::Refused(Refusal::Malformed),
+                search: Search::BLANK,
+            };
+        }
+        Search::with_parts(
+            image::body(bytes, 1),
+            image::tolerance(bytes),
+            image::method(bytes),
+            image::total(bytes),
+            image::body(bytes, 4),
+        )
     }
 }

@@ -13,19 +13,13 @@ use Rattle.admit.specs.Numbers.{admissionNumber}
 use Rattle.search.specs.declared.Search.{Search}
 use Rattle.search.specs.Searches.{patternOf, tailOf}
 use Rattle.search.specs.Calls.{handedNumber, limitNumber}
-use Rattle.search.proofs.Handed.{Sound, sound}
+use Rattle.search.proofs.Handed.{Stored, Sound, sound}
 use Rattle.search.proofs.Feeding.{Within, within, fed-refused-early, fed-refused-late, fed-listed}
 use borrow.Author.Needs.{needs}
 use Rattle.search.proofs.Search.feed.Statement.{statement}
 use Rattle.search.proofs.Search.feed.Tie as tie
 
--- the stored bytes of a search handed in
-record Stored (held : Search) : Type 0 where
-  pattern-long : length (held .pattern) ≡ 64
-  tail-long : length (held .tail) ≡ 63
-  pattern-bytes : Bytes (held .pattern)
-  tail-bytes : Bytes (held .tail)
-
+-- the stored bytes of the search handed in
 stored-in : (c : tie.Start) → Stored (c .args .self)
 stored-in c =
     let byte : (i : ℕ) → Fits w8 (getD (c .args .self .pattern) i 0) = λ i. search needs in
