@@ -1,18 +1,16 @@
 -- A feed's answer, and the search that it hands back.
-use mathlib.Core.Path.{_≡_, refl, sym, ap, _∙_}
-use mathlib.Core.Bool.{cond}
-use mathlib.Core.List.{List, [], _∷_, _++_}
-use Prim.Native.Nat.{ℕ, _+_, _-_, _≤_, _<_, min}
+use mathlib.Core.Path.{_≡_, sym, ap, _∙_}
+use mathlib.Core.List.{List, [], _∷_}
+use Prim.Native.Nat.{ℕ, _+_, _-_, _≤_}
 use native.Mathlib.Omega.{arith}
 use lib.Dec.{ltb}
-use lib.ListN.{length, take, length-take, length-drop, length-append}
+use lib.ListN.{length, length-drop}
 use borrow.Author.Tests.{ltb-false}
 use Rattle.jumbled.specs.Match.{Bytes, positions}
 use Rattle.jumbled.specs.Steps.{steps}
-use Rattle.jumbled.specs.Refusals.{test, given, patternTests, searchTests, feedTests}
+use Rattle.jumbled.specs.Refusals.{test, feedTests}
 use Rattle.jumbled.proofs.Admission.{given-append, given-none}
 use Rattle.jumbled.proofs.Methods.{methods-list}
-use Rattle.jumbled.proofs.Sums.{below-or-not}
 use Rattle.listing.specs.Placed.{placed, shifted}
 use Rattle.admit.specs.Numbers.{numberOf}
 use Rattle.admit.specs.declared.Refusal.{Refusal}
@@ -21,10 +19,10 @@ use Rattle.pieces.specs.declared.Done.{Done}
 use Rattle.search.specs.declared.Search.{Search}
 use Rattle.search.specs.declared.Answer.the-variants.{Listed, Refused}
 use Rattle.search.specs.Answers.{unlessRefused}
-use Rattle.search.specs.Searches.{patternOf, tailOf, stored, lastOf, tailLength}
-use Rattle.search.specs.Calls.{handedTests, handedNumber, limitNumber, feedNumber, reached, fedParts, Advancing, Feeds}
+use Rattle.search.specs.Searches.{patternOf, stored, lastOf}
+use Rattle.search.specs.Calls.{handedTests, handedNumber, limitNumber, feedNumber, reached, fedParts, Feeds}
 use Rattle.search.proofs.Wholes.{number-positive, on-refusal, on-accepted}
-use Rattle.search.proofs.Handed.{handed-numbered, Sound, sound}
+use Rattle.search.proofs.Handed.{handed-numbered, sound}
 
 pub length-last : (j : ℕ) (U : List ℕ) → j ≤ length U → length (lastOf j U) ≡ j
 length-last j U h = omega (arith, length-drop (length U - j) U)

@@ -1,22 +1,20 @@
 -- The tests of a search handed in, and the answers of the calls that hand one back.
-use mathlib.Core.Path.{_≡_, refl, sym, ap, _∙_}
-use mathlib.Core.Bool.{Bool, true, false, cond, not}
-use mathlib.Core.List.{List, [], _∷_, _++_}
-use Prim.Native.Nat.{ℕ, suc, _+_, _-_, _≤_, _<_}
-use native.Mathlib.Omega.{arith}
-use lib.Dec.{eqb, ltb}
+use mathlib.Core.Path.{_≡_, refl, sym, _∙_}
+use mathlib.Core.Bool.{cond}
+use mathlib.Core.List.{List, [], _∷_}
+use Prim.Native.Nat.{ℕ, _≤_, _<_}
 use lib.ListN.{length}
 use borrow.Author.Tests.{lt-ltb, le-ltb, ltb-false, eqb-true, not-false}
 use Rattle.jumbled.specs.Match.{Bytes}
-use Rattle.jumbled.specs.Refusals.{Test, test, given, patternTests, methodTests, searchTests, setMethodTests}
+use Rattle.jumbled.specs.Refusals.{test, given, patternTests, methodTests, searchTests, setMethodTests}
 use Rattle.jumbled.proofs.Admission.{Numbered, none, next, given-none, given-append, given-append-none, numbered-append, pattern-numbered}
-use Rattle.admit.specs.Numbers.{numberOf, admissionNumber}
+use Rattle.admit.specs.Numbers.{numberOf}
 use Rattle.admit.specs.declared.Refusal.{Refusal}
 use Rattle.admit.specs.declared.Admission.the-variants.{Accepted, Refused}
 use Rattle.image.specs.Image.{partsWith}
 use Rattle.search.specs.declared.Search.{Search}
 use Rattle.search.specs.Answers.{unlessRefused}
-use Rattle.search.specs.Searches.{patternOf, stored, blank, tailLength, badTail, tooLongPattern}
+use Rattle.search.specs.Searches.{patternOf, stored, blank, tailLength, badTail}
 use Rattle.search.specs.Calls.{handedTests, handedNumber, openNumber, Opened, setMethodNumber, withMethod, SetsMethod}
 use Rattle.search.proofs.Wholes.{on-refusal, on-accepted}
 

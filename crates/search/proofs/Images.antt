@@ -1,10 +1,9 @@
 -- The answers of save and load.
 use mathlib.Core.Path.{_≡_, refl, sym, ap, _∙_}
-use mathlib.Core.Bool.{Bool, true, false, cond, not}
-use mathlib.Core.List.{List, [], _∷_, _++_}
-use Prim.Native.Nat.{ℕ, _+_, _-_, _≤_, _<_}
-use native.Mathlib.Omega.{arith}
-use lib.Dec.{eqb, ltb}
+use mathlib.Core.Bool.{Bool, true, false, cond}
+use mathlib.Core.List.{List, [], _∷_}
+use Prim.Native.Nat.{ℕ, _≤_, _<_}
+use lib.Dec.{ltb}
 use lib.ListN.{length}
 use borrow.Author.Tests.{lt-ltb, le-ltb}
 use Rattle.jumbled.specs.Refusals.{test, given, patternTests, searchTests, saveTests, loadTests}
@@ -13,7 +12,7 @@ use Rattle.listing.specs.Placed.{placed}
 use Rattle.image.specs.Image.{Parts}
 use Rattle.image.specs.Decode.{badForm, partsOf}
 use Rattle.image.specs.Writing.{Encoded}
-use Rattle.admit.specs.Numbers.{numberOf, admissionNumber}
+use Rattle.admit.specs.Numbers.{numberOf}
 use Rattle.admit.specs.declared.Refusal.{Refusal}
 use Rattle.admit.specs.declared.Refusal.the-variants.{Malformed, BufferTooShort}
 use Rattle.admit.specs.declared.Admission.the-variants.{Accepted, Refused}

@@ -1,13 +1,12 @@
 -- Bytes put into an array of zeros, and the last bytes of a tail followed by a chunk.
-use mathlib.Core.Path.{_≡_, refl, sym, ap, _∙_}
-use mathlib.Core.List.{List, [], _∷_, _++_}
+use mathlib.Core.Path.{_≡_, sym, ap, _∙_}
+use mathlib.Core.List.{List, _++_}
 use Prim.Native.Nat.{ℕ, zero, suc, _+_, _-_, _≤_, _<_}
 use native.Mathlib.Nat.{zero-add, sub-zero, suc-sub-suc, zero-sub}
 use native.Mathlib.Omega.{arith}
-use lib.ListN.{length, take, drop, replicate, length-append, length-drop, length-replicate}
+use lib.ListN.{length, take, drop, replicate, length-append, length-drop}
 use lib.Seq.{drop-append-add, drop-append-le, take-all}
 use Rattle.listing.specs.Placed.{placed}
-use Rattle.listing.proofs.Placing.{placed-placed}
 use Rattle.search.specs.Searches.{padded, lastOf}
 
 drop-replicate : (j n v : ℕ) → drop j (replicate n v) ≡ replicate (n - j) v

@@ -7,7 +7,7 @@ ghost use lib.ListN.{length};
 ghost use Rattle.search.specs.Whole.{Whole};
 ghost use Rattle.image.specs.Image.{partsWith};
 ghost use Rattle.admit.specs.Numbers.{admissionNumber};
-ghost use Rattle.search.specs.Searches.{padded, stored, lastOf};
+ghost use Rattle.search.specs.Searches.{padded, stored, lastOf, tailLength};
 ghost use Rattle.search.specs.Calls.{handedNumber, Opened, Advancing, fedParts, limitNumber, Feeds, SetsMethod, Saves, HeldWith, Loads};
 use admit::Admission;
 use admit::Refusal;
@@ -104,6 +104,15 @@ fn next_tail(tail: &[u8], chunk: &[u8], keep: usize) -> [u8; 63]
     bytes
 }
 
+// The length of the tail after total bytes, for a pattern of m: what a window that ends in the next chunk can reach.
+fn tail_length(m: usize, total: usize) -> usize
+    requires { ⌜ 1 ≤ m ⌝ }
+    ensures { λ r. ⌜ r ≡ tailLength m total ⌝ }
+{
+    let reach = m - 1;
+    if total < reach { total } else { reach }
+}
+
 impl Search {
     // The longest pattern,
     pub const LONGEST_PATTERN: usize = 64;
@@ -159,10 +168,7 @@ impl Search {
         if let Admission::Refused(refusal) = admission {
             return Admission::Refused(refusal);
         }
-        let total = self.total as usize;
-        let reach = len - 1;
-        let expected = if total < reach { total } else { reach };
-        if self.tail_len != expected {
+        if self.tail_len != tail_length(len, self.total as usize) {
             return Admission::Refused(Refusal::Malformed);
         }
         Admission::Accepted
@@ -204,8 +210,7 @@ impl Search {
         let tail = self.tail;
         let tail_len = self.tail_len;
         let total = self.total as usize + chunk.len();
-        let reach = len - 1;
-        let keep = if total < reach { total } else { reach };
+        let keep = tail_length(len, total);
         let pattern_bytes = stored_pattern(&pattern[..len]);
         let tail_bytes = next_tail(&tail[..tail_len], chunk, keep);
         Search {
@@ -322,13 +327,7 @@ impl Search {
                 search: Search::BLANK,
             };
         }
-        let reach = pattern.len() - 1;
-        let expected = if (total as usize) < reach {
-            total as usize
-        } else {
-            reach
-        };
-        if tail.len() != expected {
+        if tail.len() != tail_length(pattern.len(), total as usize) {
             return Held {
                 admission: Admission::Refused(Refusal::Malformed),
                 search: Search::BLANK,

@@ -1,7 +1,6 @@
 -- `search::Search::checked` meets its contract: a test a return.
 use mathlib.Core.Path.{_≡_, refl, sym, ap, _∙_}
-use mathlib.Core.Logic.{⊎-elim}
-use Prim.Native.Nat.{ℕ, _-_, _≤_, min}
+use Prim.Native.Nat.{_-_, min}
 use native.Mathlib.Omega.{arith}
 use lib.ListN.{length, length-take}
 use borrow.Author.Tests.{eq-eqb, ne-eqb}
@@ -21,11 +20,6 @@ search-of s = s .before .before .before .before .before .before .args .self
 
 accepted : (s : tie.After-enum-told) → given (patternTests (patternOf (search-of s)) (search-of s .k) (search-of s .method)) ≡ 0
 accepted s = sym (s .before .before .admit .ensures) ∙ ap admissionNumber (s .enum-told .given .1)
-
--- the tail's length as it should be
-expected : (c : tie.Joined2)
-    → c .if2 .expected ≡ min (search-of (c .before .before) .total) (search-of (c .before .before) .«pattern_len» - 1)
-expected c = ⊎-elim (λ w. omega arith) (λ w. omega arith) (c .if2 .came)
 
 returns : tie.Need-returns
 returns c = sym (handed-long (c .before .args .self) (c .if1 .taken))
@@ -55,11 +49,11 @@ returns-2 c =
 enum-told : tie.Need-enum-told
 enum-told c = search needs
 
-cast-total : tie.Need-cast-total
-cast-total c = search needs
+cast-tail-length : tie.Need-cast-tail-length
+cast-tail-length c = search needs
 
-sub-reach : tie.Need-sub-reach
-sub-reach c =
+tail-length-requires : tie.Need-tail-length-requires
+tail-length-requires c κs =
     let held = search-of (c .before) in
     let right = admitted (patternOf held) (held .k) (held .method) (accepted (c .before)) in
     omega (arith, right .some, length-take (held .«pattern_len») (held .pattern))
@@ -69,14 +63,14 @@ returns-3 c =
     let told : tie.After-enum-told = c .before .before .before .before in
     let held = search-of told in
     sym (handed-late held (told .before .before .before .before .before .if1 .left) (accepted told)
-    ∙ rw (ne-eqb (held .«tail_len») (min (held .total) (held .«pattern_len» - 1)) (λ e. c .if3 .taken (e ∙ sym (expected (c .before .before))))) refl)
+    ∙ rw (ne-eqb (held .«tail_len») (min (held .total) (held .«pattern_len» - 1)) (λ e. c .if2 .taken (e ∙ sym (c .before .before .tail-length .ensures)))) refl)
 
 returns-4 : tie.Need-returns-4
 returns-4 c =
     let told : tie.After-enum-told = c .before .before .before .before in
     let held = search-of told in
     sym (handed-late held (told .before .before .before .before .before .if1 .left) (accepted told)
-    ∙ rw (eq-eqb (held .«tail_len») (min (held .total) (held .«pattern_len» - 1)) (c .if3 .left ∙ expected (c .before .before))) refl)
+    ∙ rw (eq-eqb (held .«tail_len») (min (held .total) (held .«pattern_len» - 1)) (c .if2 .left ∙ c .before .before .tail-length .ensures)) refl)
 
 pub checked-spec : {M : Type 1} → statement M
 checked-spec =
@@ -89,7 +83,7 @@ checked-spec =
     enum-known-admission
     returns-2
     enum-told
-    cast-total
-    sub-reach
+    cast-tail-length
+    tail-length-requires
     returns-3
     returns-4)

@@ -1,12 +1,11 @@
 -- `search::Search::feed` meets its contract.
-use mathlib.Core.Path.{_≡_, refl, sym, ap, _∙_}
-use mathlib.Core.List.{List, _++_}
-use Prim.Native.Nat.{ℕ, _+_, _-_, _≤_, _<_}
+use mathlib.Core.Path.{_≡_, sym, ap, _∙_}
+use mathlib.Core.List.{List}
+use Prim.Native.Nat.{ℕ}
 use native.Mathlib.Omega.{arith}
-use lib.ListN.{length, getD, take, length-take}
+use lib.ListN.{length, getD, length-take}
 use mir.Syntax.{w8}
 use mir.Val.{Fits}
-use Rattle.jumbled.specs.Match.{Bytes}
 use Rattle.jumbled.proofs.Admission.{Admitted, admitted, method-given}
 use Rattle.jumbled.proofs.Counts.{bytes-take, bytes-append}
 use Rattle.admit.specs.Numbers.{admissionNumber}

@@ -1,6 +1,6 @@
 -- `search::Search::load` meets its contract.
-use mathlib.Core.Path.{_≡_, refl, sym, ap, _∙_}
-use mathlib.Core.Bool.{true, false, not}
+use mathlib.Core.Path.{_≡_, sym, _∙_}
+use mathlib.Core.Bool.{false}
 use borrow.Author.Tests.{not-true, not-false}
 use Rattle.image.specs.Decode.{badForm}
 use Rattle.search.proofs.Images.{loaded-bad, loaded-good}

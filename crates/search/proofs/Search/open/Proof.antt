@@ -1,11 +1,8 @@
 -- `search::Search::open` meets its contract.
-use mathlib.Core.Path.{_≡_, refl, sym, ap, _∙_}
-use mathlib.Core.List.{List}
-use Prim.Native.Nat.{ℕ}
+use mathlib.Core.Path.{_≡_, sym, ap, _∙_}
 use Rattle.jumbled.specs.Refusals.{given, patternTests}
 use Rattle.jumbled.proofs.Admission.{admitted}
 use Rattle.admit.specs.Numbers.{admissionNumber}
-use Rattle.image.specs.Image.{partsWith}
 use Rattle.search.proofs.Handed.{opened-refused, opened-accepted}
 use borrow.Author.Needs.{needs}
 use Rattle.search.proofs.Search.open.Statement.{statement}

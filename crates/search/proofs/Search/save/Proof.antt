@@ -1,10 +1,8 @@
 -- `search::Search::save` meets its contract.
-use mathlib.Core.Path.{_≡_, refl, sym, ap, _∙_}
-use Prim.Native.Nat.{ℕ, _+_, _≤_}
+use mathlib.Core.Path.{_≡_, sym, ap, _∙_}
+use Prim.Native.Nat.{_+_}
 use native.Mathlib.Omega.{arith}
-use lib.ListN.{length, getD, length-take}
-use mir.Syntax.{w8}
-use mir.Val.{Fits}
+use lib.ListN.{length, length-take}
 use Rattle.admit.specs.Numbers.{admissionNumber}
 use Rattle.image.proofs.Images.{length-image, save-order}
 use Rattle.search.specs.declared.Search.{Search}

@@ -1,5 +1,5 @@
 -- `search::Search::set_method` meets its contract.
-use mathlib.Core.Path.{_≡_, refl, sym, ap, _∙_}
+use mathlib.Core.Path.{_≡_, sym, ap, _∙_}
 use native.Mathlib.Omega.{arith}
 use lib.ListN.{length, length-take}
 use Rattle.jumbled.proofs.Admission.{admitted}
@@ -7,7 +7,7 @@ use Rattle.admit.specs.Numbers.{admissionNumber}
 use Rattle.search.specs.declared.Search.{Search}
 use Rattle.search.specs.Searches.{patternOf}
 use Rattle.search.specs.Calls.{handedNumber}
-use Rattle.search.proofs.Handed.{Sound, sound, method-refused-early, method-refused-late, method-set}
+use Rattle.search.proofs.Handed.{sound, method-refused-early, method-refused-late, method-set}
 use borrow.Author.Needs.{needs}
 use Rattle.search.proofs.Search.set_method.Statement.{statement}
 use Rattle.search.proofs.Search.set_method.Tie as tie

@@ -1,8 +1,7 @@
 -- `search::Search::with_parts` meets its contract: a test a return.
 use mathlib.Core.Path.{_≡_, refl, sym, ap, _∙_}
-use mathlib.Core.List.{List, [], _++_}
-use mathlib.Core.Logic.{⊎-elim}
-use Prim.Native.Nat.{ℕ, _-_, _≤_, min}
+use mathlib.Core.List.{[], _++_}
+use Prim.Native.Nat.{ℕ, _-_, min}
 use native.Mathlib.Omega.{arith}
 use lib.ListN.{length, drop}
 use borrow.Author.Tests.{eq-eqb, ne-eqb}
@@ -10,7 +9,7 @@ use Rattle.jumbled.specs.Refusals.{given, patternTests}
 use Rattle.jumbled.proofs.Admission.{admitted}
 use Rattle.admit.specs.Numbers.{admissionNumber}
 use Rattle.image.specs.Image.{Parts, partsWith}
-use Rattle.search.specs.Searches.{padded, lastOf}
+use Rattle.search.specs.Searches.{lastOf}
 use Rattle.search.proofs.Images.{held-refused-early, held-bad-tail, held-accepted}
 use borrow.Author.Needs.{needs}
 use Rattle.search.proofs.Search.with_parts.Statement.{statement}
@@ -26,13 +25,9 @@ parts-of c = partsWith (c .args .pattern .now) (c .args .k) (c .args .method) (c
 accepted : (s : tie.After-enum-told) → given (patternTests (start-of s .args .pattern .now) (start-of s .args .k) (start-of s .args .method)) ≡ 0
 accepted s = sym (s .before .before .admit .ensures) ∙ ap admissionNumber (s .enum-told .given .1)
 
--- the tail's length as it should be
-expected : (c : tie.Joined1) → c .if1 .expected ≡ min (start-of (c .before) .args .total) (length (start-of (c .before) .args .pattern .now) - 1)
-expected c = ⊎-elim (λ w. omega arith) (λ w. omega arith) (c .if1 .came)
-
-right-length : (c : tie.Else2)
+right-length : (c : tie.Else1)
     → length (start-of (c .before .before) .args .tail .now) ≡ min (start-of (c .before .before) .args .total) (length (start-of (c .before .before) .args .pattern .now) - 1)
-right-length c = c .if2 .left ∙ expected (c .before)
+right-length c = c .if1 .left ∙ c .before .tail-length .ensures
 
 admit-requires : tie.Need-admit-requires
 admit-requires c κs = search needs
@@ -47,8 +42,8 @@ returns c =
 enum-told : tie.Need-enum-told
 enum-told c = search needs
 
-sub-reach : tie.Need-sub-reach
-sub-reach c =
+tail-length-requires : tie.Need-tail-length-requires
+tail-length-requires c κs =
     let args = start-of c .args in
     omega (arith, admitted (args .pattern .now) (args .k) (args .method) (accepted c) .some)
 
@@ -57,7 +52,7 @@ returns-2 c =
     let told : tie.After-enum-told = c .before .before in
     let args = start-of told .args in
     held-bad-tail (parts-of (start-of told)) (accepted told)
-    (rw (ne-eqb (length (args .tail .now)) (min (args .total) (length (args .pattern .now) - 1)) (λ e. c .if2 .taken (e ∙ sym (expected (c .before))))) refl)
+    (rw (ne-eqb (length (args .tail .now)) (min (args .total) (length (args .pattern .now) - 1)) (λ e. c .if1 .taken (e ∙ sym (c .before .tail-length .ensures)))) refl)
 
 stored-pattern-requires : tie.Need-stored-pattern-requires
 stored-pattern-requires c κs =
@@ -93,7 +88,7 @@ with-parts-spec =
     enum-known-admission
     returns
     enum-told
-    sub-reach
+    tail-length-requires
     returns-2
     stored-pattern-requires
     slice-aggregate-next-tail
