@@ -28,7 +28,7 @@ use Rattle.search.specs.Searches.{patternOf, stored, lastOf, tailLength}
 use Rattle.search.specs.Searches as Searches
 use Rattle.search.specs.Calls.{Opened, openNumber, Feeds, feedNumber, reached, fedParts, SetsMethod, setMethodNumber, Saves, saveNumber, imageOf, Loads, loadNumber, savingNumber, savingLength}
 use Rattle.series.specs.History.{Ledger, Current, blank, holds, Copy, startWith, withChunk, withMethod, changed, keep, broughtBack, report}
-use Rattle.series.specs.Series.{KeptAs, latest, older, written, Reports, FedRight, Agrees}
+use Rattle.series.specs.Series.{KeptAs, latest, older, written, Reports, Agrees}
 use Rattle.series.proofs.Reports.{positions-append, report-by-tail, tail-after}
 use Rattle.series.proofs.Tests.{pattern-stored, tail-stored, parts-stored, feed-total, set-admitted, feed-blank, set-blank, save-blank, take-placed-first, load-parts, load-taken}
 

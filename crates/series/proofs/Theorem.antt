@@ -5,13 +5,15 @@ use mathlib.Core.Logic.{_⊎_, ⊎-elim}
 use Prim.Native.Nat.{ℕ, zero, suc}
 use Rattle.admit.specs.Numbers.{admissionNumber}
 use Rattle.search.specs.declared.Search.{Search}
+use Rattle.search.specs.declared.Answer.{Answer}
 use Rattle.search.specs.declared.Held.{Held}
 use Rattle.search.specs.declared.Fed.{Fed}
 use Rattle.search.specs.declared.Kept.{Kept}
 use Rattle.search.specs.Answers.{answerNumber}
+use Rattle.search.specs.Whole.{Whole}
 use Rattle.search.specs.Calls.{Opened, Feeds, SetsMethod, Saves, Loads, savingNumber}
-use Rattle.series.specs.History.{Ledger, holds, History, verdict, Event, opened, fed, methodSet, saved, loaded, after, history}
-use Rattle.series.specs.Series.{KeptAs, written, Run, fresh, opens, feeds, sets, saves, loads, FedRight, AfterCall, Right}
+use Rattle.series.specs.History.{Ledger, holds, History, verdict, Event, opened, fed, methodSet, saved, loaded, searched, after, history}
+use Rattle.series.specs.Series.{KeptAs, written, Run, fresh, opens, feeds, sets, saves, loads, wholes, AfterCall, Right}
 use Rattle.series.proofs.Standing.{Standing, Copies, none, sound-of, agrees, open-accepted, open-refused, feed-accepted, feed-refused, feed-reports, feed-while-blank, set-accepted, set-refused, set-while-blank, save-standing, save-copies, save-while-blank, load-accepted, load-number, load-refused}
 
 -- what a search and the history have in common after every call
@@ -57,6 +59,12 @@ after-load {h} up {which = which} told got zero e =
     }
 after-load up told got (suc n) e = record { standing = load-refused told n e; copies = up .copies }
 
+-- a whole search hands back no search, and the history stays
+after-whole : {h : History} {s : Search} → Kept-up h s → {P : List ℕ} {k method : ℕ} {text before rest : List ℕ} {r : Answer}
+    → Whole P k method text before rest r → Kept-up (after h (searched P k method text (verdict (answerNumber r)))) s
+unfolding after
+after-whole up told = up
+
 -- ---- every series
 
 kept-up : {P : List ℕ} {k method : ℕ} {s : Search} {events : List Event} → Run P k method s events → Kept-up (history P k method events) s
@@ -67,6 +75,7 @@ kept-up (feeds run told) = after-feed (kept-up run) told _ refl
 kept-up (sets run told) = after-set (kept-up run) told _ refl
 kept-up (saves run told) = after-save (kept-up run) told _ refl
 kept-up (loads run told got) = after-load (kept-up run) told got _ refl
+kept-up (wholes run told) = after-whole (kept-up run) told
 
 after-call : {P : List ℕ} {k method : ℕ} {s : Search} {events : List Event} → Run P k method s events → AfterCall (history P k method events)
 after-call run L e = agrees L (sound-of (kept-up run .standing) L e)
@@ -75,11 +84,9 @@ pub series : {P : List ℕ} {k method : ℕ} {s : Search} {events : List Event} 
 unfolding Right
 series (fresh told ok) = after-call (fresh told ok)
 series (opens run told) = (series run, after-call (opens run told))
-series (feeds run told) = (
-  series run,
-  record { reports = feed-reports (kept-up run .standing) told; while-blank = feed-while-blank (kept-up run .standing) told },
-  after-call (feeds run told),
-)
+series (feeds run told) =
+    (series run, feed-reports (kept-up run .standing) told, feed-while-blank (kept-up run .standing) told, after-call (feeds run told))
 series (sets run told) = (series run, set-while-blank (kept-up run .standing) told, after-call (sets run told))
 series (saves run told) = (series run, save-while-blank (kept-up run .standing) told, after-call (saves run told))
 series (loads run told got) = (series run, load-number told (kept-up run .copies), after-call (loads run told got))
+series (wholes run told) = (series run, after-call (wholes run told))

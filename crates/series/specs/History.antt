@@ -41,14 +41,16 @@ abbrev pub verdict : ℕ → Verdict
 verdict zero = accepted
 verdict (suc n) = refused
 
--- The calls and their arguments. A save: the image that it wrote, where it was accepted. A load: which of the kept copies is meant, by how
--- many copies were kept after it, so that "the claim holds with the copy of each" where several saves wrote equal images.
+-- A call with its arguments. Of an accepted save it is told the image that it wrote. Of an accepted load it is told which of the kept copies
+-- is meant, by how many copies were kept after that one, so that "the claim holds with the copy of each" where several saves wrote equal
+-- images.
 pub data Event : Type 0 where
   opened : (P : List ℕ) (k method : ℕ) → Verdict → Event
   fed : (chunk : List ℕ) → Verdict → Event
   methodSet : (method : ℕ) → Verdict → Event
   saved : (image : List ℕ) → Verdict → Event
   loaded : (bytes : List ℕ) (which : ℕ) → Verdict → Event
+  searched : (P : List ℕ) (k method : ℕ) (text : List ℕ) → Verdict → Event
 
 -- ---- what it then holds
 
@@ -99,18 +101,20 @@ broughtBack (copy ∷ kept) (suc which) = broughtBack kept which
 unfoldable pub after : History → Event → History
 -- "An accepted open starts it anew with its own arguments."
 after h (opened P k method accepted) = record { current = holds (startWith P k method); kept = h .kept }
--- "Refused open or load: the ledger is blank until the next accepted open or load; kept copies stay."
-after h (opened P k method refused) = record { current = blank; kept = h .kept }
-after h (loaded bytes which refused) = record { current = blank; kept = h .kept }
--- "Accepted, it brings back the copy kept at that save."
-after h (loaded bytes which accepted) = record { current = broughtBack (h .kept) which; kept = h .kept }
 after h (fed chunk accepted) = record { current = changed (withChunk chunk) (h .current); kept = h .kept }
 after h (methodSet method accepted) = record { current = changed (withMethod method) (h .current); kept = h .kept }
 after h (saved image accepted) = record { current = h .current; kept = keep image (h .current) (h .kept) }
+-- "Accepted, it brings back the copy kept at that save."
+after h (loaded bytes which accepted) = record { current = broughtBack (h .kept) which; kept = h .kept }
+-- "Refused open or load: the ledger is blank until the next accepted open or load; kept copies stay."
+after h (opened P k method refused) = record { current = blank; kept = h .kept }
+after h (loaded bytes which refused) = record { current = blank; kept = h .kept }
 -- "Any other refused call: no change."
 after h (fed chunk refused) = h
 after h (methodSet method refused) = h
 after h (saved image refused) = h
+-- A whole search shares no search with any call.
+after h (searched P k method text verdict) = h
 
 -- The history after some calls, the latest first, on the fresh search for P, k and method
 unfoldable pub history : List ℕ → ℕ → ℕ → List Event → History

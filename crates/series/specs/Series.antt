@@ -17,7 +17,7 @@ use Rattle.search.specs.Answers.{answerNumber, answerFound, answerLooks}
 use Rattle.search.specs.Whole.{Whole}
 use Rattle.search.specs.Searches.{lastOf, tailLength}
 use Rattle.search.specs.Calls.{Opened, Feeds, SetsMethod, Saves, Loads, savingNumber, savingLength}
-use Rattle.series.specs.History.{Ledger, Current, blank, holds, Copy, History, Verdict, verdict, Event, opened, fed, methodSet, saved, loaded, report, after, history}
+use Rattle.series.specs.History.{Ledger, blank, holds, Copy, History, verdict, Event, opened, fed, methodSet, saved, loaded, searched, report, history}
 
 -- ---- a series of calls
 
@@ -32,7 +32,7 @@ written after r = take (savingLength (r .saving)) after
 
 -- A series of calls on the fresh search for P, k and method: the search that the last call handed back, and what the history is told, the
 -- latest call first. Of each call its contract's record is known and nothing else; "each call but open and load gets the search that the
--- last one handed back".
+-- last one handed back". Whether a call was refused is read off the number that it gives.
 pub data Run (P : List ℕ) (k method : ℕ) : Search → List Event → Type 0 where
   -- "A fresh search is one that an accepted open gives."
   fresh : {r : Held} → Opened P k method r → admissionNumber (r .admission) ≡ 0 → Run P k method (r .search) []
@@ -53,10 +53,14 @@ pub data Run (P : List ℕ) (k method : ℕ) : Search → List Event → Type 0 
       → {bytes : List ℕ} {which : ℕ} {r : Held} → Loads bytes r
       → KeptAs bytes (history P k method events .kept) which ⊎ (admissionNumber (r .admission) ≡ 0 → ⊥)
       → Run P k method (r .search) (loaded bytes which (verdict (admissionNumber (r .admission))) ∷ events)
+  -- "No search is shared with it."
+  wholes : {s : Search} {events : List Event} → Run P k method s events
+      → {P′ : List ℕ} {k′ method′ : ℕ} {text before after : List ℕ} {r : Answer} → Whole P′ k′ method′ text before after r
+      → Run P k method s (searched P′ k′ method′ text (verdict (answerNumber r)) ∷ events)
 
 -- ---- what is claimed
 
--- Of an accepted feed, by the ledger before it
+-- Of an accepted feed, by the ledger before it:
 pub record Reports (L : Ledger) (chunk before after : List ℕ) (r : Fed) : Type 0 where
   -- "the positions that an accepted feed puts in its list are its report in the ledger, in that order,
   pub list : after ≡ placed before 0 (report L chunk)
@@ -69,14 +73,21 @@ pub record Reports (L : Ledger) (chunk before after : List ℕ) (r : Fed) : Type
       ≡ steps (L .pattern) (L .k) (L .method) (lastOf (tailLength (length (L .pattern)) (length (L .text))) (L .text) ++ chunk) .inspections
 
 -- Of any feed, by the history before it
-pub record FedRight (h : History) (chunk before after : List ℕ) (r : Fed) : Type 0 where
-  pub reports : (L : Ledger) → h .current ≡ holds L → answerNumber (r .answer) ≡ 0 → Reports L chunk before after r
-  -- blank: "Until then feed, set method and save are refused with 1."
-  pub while-blank : h .current ≡ blank → answerNumber (r .answer) ≡ 1
+abbrev pub FeedReports : History → List ℕ → List ℕ → List ℕ → Fed → Type 0
+FeedReports h chunk before after r =
+    (L : Ledger) → h .current ≡ holds L → answerNumber (r .answer) ≡ 0 → Reports L chunk before after r
 
--- "After every call, unless the ledger is blank,
+-- Of feed, set method and save, by the history before them: while it is blank they "are refused with 1"
+abbrev pub OneWhileBlank : History → ℕ → Type 0
+OneWhileBlank h number = h .current ≡ blank → number ≡ 1
+
+-- Of a load, by the history before it: the image of a save is taken
+abbrev pub TakesKept : History → List ℕ → ℕ → ℕ → Type 0
+TakesKept h bytes which number = KeptAs bytes (h .kept) which → number ≡ 0
+
+-- Of a ledger:
 pub record Agrees (L : Ledger) : Type 0 where
-  -- the reports are the listed positions of the record,
+  -- "the reports are the listed positions of the record,
   pub reported : L .reported ≡ positions (L .pattern) (L .k) (L .text)
   -- and those of every accepted whole search of it with the ledger's P and k, whatever its method."
   pub whole-list : (method : ℕ) (before after : List ℕ) (r : Answer) → Whole (L .pattern) (L .k) method (L .text) before after r
@@ -84,18 +95,24 @@ pub record Agrees (L : Ledger) : Type 0 where
   pub whole-found : (method : ℕ) (before after : List ℕ) (r : Answer) → Whole (L .pattern) (L .k) method (L .text) before after r
       → answerNumber r ≡ 0 → answerFound r ≡ length (L .reported)
 
+-- "After every call, unless the ledger is blank"
 abbrev pub AfterCall : History → Type 0
 AfterCall h = (L : Ledger) → h .current ≡ holds L → Agrees L
 
--- "This is a single claim about the whole series, not one for each call."
-unfoldable pub Right : {P : List ℕ} {k method : ℕ} {s : Search} {events : List Event} → Run P k method s events → Type 0
-Right {P} {k} {method} (fresh told ok) = AfterCall (history P k method [])
-Right {P} {k} {method} {events = events} (opens run told) = Right run × AfterCall (history P k method events)
-Right {P} {k} {method} {events = events} (feeds {events = past} run {chunk} {before} {after} {r} told) =
-    Right run × FedRight (history P k method past) chunk before after r × AfterCall (history P k method events)
-Right {P} {k} {method} {events = events} (sets {events = past} run {r = r} told) =
-    Right run × (history P k method past .current ≡ blank → admissionNumber (r .admission) ≡ 1) × AfterCall (history P k method events)
-Right {P} {k} {method} {events = events} (saves {events = past} run {r = r} told) =
-    Right run × (history P k method past .current ≡ blank → savingNumber (r .saving) ≡ 1) × AfterCall (history P k method events)
-Right {P} {k} {method} {events = events} (loads {events = past} run {bytes} {which} {r} told got) =
-    Right run × (KeptAs bytes (history P k method past .kept) which → admissionNumber (r .admission) ≡ 0) × AfterCall (history P k method events)
+-- "This is a single claim about the whole series, not one for each call." `past` is what the history was told before the last call, `now`
+-- what it was told with it.
+unfoldable pub Right : {P : List ℕ} {k method : ℕ} {s : Search} {now : List Event} → Run P k method s now → Type 0
+Right {P} {k} {method} {now = now} (fresh told ok) = AfterCall (history P k method now)
+Right {P} {k} {method} {now = now} (opens run told) = Right run × AfterCall (history P k method now)
+Right {P} {k} {method} {now = now} (feeds {events = past} run {chunk} {before} {after} {r} told) =
+    Right run
+    × FeedReports (history P k method past) chunk before after r
+    × OneWhileBlank (history P k method past) (answerNumber (r .answer))
+    × AfterCall (history P k method now)
+Right {P} {k} {method} {now = now} (sets {events = past} run {r = r} told) =
+    Right run × OneWhileBlank (history P k method past) (admissionNumber (r .admission)) × AfterCall (history P k method now)
+Right {P} {k} {method} {now = now} (saves {events = past} run {r = r} told) =
+    Right run × OneWhileBlank (history P k method past) (savingNumber (r .saving)) × AfterCall (history P k method now)
+Right {P} {k} {method} {now = now} (loads {events = past} run {bytes} {which} {r} told got) =
+    Right run × TakesKept (history P k method past) bytes which (admissionNumber (r .admission)) × AfterCall (history P k method now)
+Right {P} {k} {method} {now = now} (wholes run told) = Right run × AfterCall (history P k method now)

@@ -1,0 +1,36 @@
+-- A history worked out: `ab`, k 0, method 2 (document 01, "Sheet of small records", has the record `aab`).
+use mathlib.Core.Path.{_≡_, refl}
+use mathlib.Core.List.{List, [], _∷_}
+use Prim.Native.Nat.{ℕ}
+use Rattle.jumbled.specs.Match.{cc, sum, excess, matches, select}
+use Rattle.series.specs.History.{Ledger, Current, blank, holds, accepted, refused, Event, opened, fed, methodSet, saved, loaded, reportOf, after, history}
+
+abbrev pub ab : List ℕ
+ab = 97 ∷ 98 ∷ []
+
+-- `a` is fed, the search is saved, `ab` is fed, and a set method is refused: the latest call first
+abbrev pub calls : List Event
+calls = methodSet 9 refused ∷ fed ab accepted ∷ saved (4 ∷ []) accepted ∷ fed (97 ∷ []) accepted ∷ []
+
+-- the window at 1 of `aab` ends in the second chunk
+pub example-fed : history ab 0 2 calls .current ≡ holds (record { pattern = ab; k = 0; method = 2; text = 97 ∷ 97 ∷ 98 ∷ []; reported = 1 ∷ [] })
+unfolding history after reportOf select matches excess sum cc
+example-fed = refl
+
+-- the load brings back the text `a`; then the window at 0 begins in it and ends in the chunk
+pub example-loaded :
+    history ab 0 2 (fed (98 ∷ []) accepted ∷ loaded (4 ∷ []) 0 accepted ∷ calls) .current
+    ≡ holds (record { pattern = ab; k = 0; method = 2; text = 97 ∷ 98 ∷ []; reported = 0 ∷ [] })
+unfolding history after reportOf select matches excess sum cc
+example-loaded = refl
+
+-- a refused open leaves the kept copy, and the next load brings it back
+pub example-blank : history ab 0 2 (opened [] 0 1 refused ∷ calls) .current ≡ blank
+unfolding history after
+example-blank = refl
+
+pub example-kept :
+    history ab 0 2 (loaded (4 ∷ []) 0 accepted ∷ opened [] 0 1 refused ∷ calls) .current
+    ≡ holds (record { pattern = ab; k = 0; method = 2; text = 97 ∷ []; reported = [] })
+unfolding history after reportOf select matches excess sum cc
+example-kept = refl
