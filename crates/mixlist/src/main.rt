@@ -3,7 +3,7 @@ use libc::STDIN_FILENO;
 use libc::STDOUT_FILENO;
 
 fn main() {
-    // One byte more than the longest input, so that a longer one is seen to be too long; what follows is not read.
+    // One byte more than the longest input: the output for these bytes is that for all of a longer one (`output-cut`).
     let mut input = [0u8; 16385];
     let read = io::read_full(STDIN_FILENO, &mut input);
     let mut output = [0u8; 98560];

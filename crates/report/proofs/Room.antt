@@ -1,12 +1,13 @@
--- How much the program prints: a buffer of 98,416 bytes has room for the output of every input.
-use mathlib.Core.Path.{_≡_, ap}
+-- How much the program prints: a buffer of 98,416 bytes has room for the output of every input. And how much of its input it has to read.
+use mathlib.Core.Path.{_≡_, sym, ap, _∙_}
 use mathlib.Core.Bool.{Bool, true, false, cond}
 use mathlib.Core.List.{List, _∷_}
 use mathlib.Core.Logic.{⊎-elim}
 use Prim.Native.Nat.{ℕ, zero, suc, _+_, _-_, _≤_, _<_}
 use native.Mathlib.Omega.{arith}
-use lib.ListN.{length, getD, length-drop}
-use borrow.Author.Tests.{ltb-false}
+use lib.ListN.{length, getD, take, length-drop}
+use lib.Seq.{length-take-le, take-all}
+use borrow.Author.Tests.{lt-ltb, ltb-false}
 use Rattle.jumbled.specs.Match.{select, positions}
 use Rattle.jumbled.specs.Steps.{steps}
 use Rattle.jumbled.specs.Refusals.{programTests}
@@ -14,12 +15,12 @@ use Rattle.jumbled.proofs.Admission.{given-none, Admitted, admitted}
 use Rattle.jumbled.proofs.Sums.{below-or-not}
 use Rattle.listing.proofs.Placing.{length-placed}
 use Rattle.report.specs.Request.{after, before, methodOf, toleranceOf, patternOf, textOf, tooLong, badLine, requestRefusal}
-use Rattle.report.specs.Output.{outputText, output, Reported}
+use Rattle.report.specs.Output.{outputText, refusalText, output, Reported}
 use Rattle.report.specs.Parsing.{part}
 use Rattle.report.proofs.Cuts.{after-drop}
 use Rattle.report.proofs.Texts.{less-shorter}
 use Rattle.report.proofs.Lines.{output-most, refusal-most}
-use Rattle.report.proofs.Answers.{Requested, output-found, output-refused, refusal-below}
+use Rattle.report.proofs.Answers.{Requested, refusal-long, output-given, output-found, output-refused, refusal-below}
 use Rattle.report.proofs.Looks.{steps-few}
 
 -- ---- the positions are few, and small
@@ -135,3 +136,15 @@ output-inside {input} {before} reported long =
       ap length (reported .filled),
       length-placed before 0 (output input) (omega (arith, output-room input)),
     )
+
+-- ---- one byte more than the longest input is all that has to be read
+
+long-output : (input : List ℕ) → 16384 < length input → output input ≡ refusalText 6
+unfolding tooLong
+long-output input l = output-given input 5 (refusal-long input (lt-ltb 16384 (length input) l))
+
+pub output-cut : (input : List ℕ) → output (take 16385 input) ≡ output input
+output-cut input =
+    ⊎-elim (λ (l : length input < 16385). ap output (take-all 16385 input (omega arith)))
+    (λ (l : 16385 ≤ length input). long-output (take 16385 input) (omega (arith, length-take-le 16385 input l)) ∙ sym (long-output input (omega arith)))
+    (below-or-not (length input) 16385)
