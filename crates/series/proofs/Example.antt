@@ -3,7 +3,7 @@ use mathlib.Core.Path.{_≡_, refl}
 use mathlib.Core.List.{List, [], _∷_}
 use Prim.Native.Nat.{ℕ}
 use Rattle.jumbled.specs.Match.{cc, sum, excess, matches, select}
-use Rattle.series.specs.History.{Ledger, Current, blank, holds, accepted, refused, Event, opened, fed, methodSet, saved, loaded, reportOf, after, history}
+use Rattle.series.specs.History.{blank, holds, accepted, refused, Event, opened, fed, methodSet, saved, loaded, reportOf, after, history}
 
 abbrev pub ab : List ℕ
 ab = 97 ∷ 98 ∷ []
@@ -17,6 +17,13 @@ pub example-fed : history ab 0 2 calls .current ≡ holds (record { pattern = ab
 unfolding history after reportOf select matches excess sum cc
 example-fed = refl
 
+-- the window at 0 of `aba` ends in the first chunk and is reported there; the one at 1 ends in the second
+pub example-once :
+    history ab 0 2 (fed (97 ∷ []) accepted ∷ fed ab accepted ∷ []) .current
+    ≡ holds (record { pattern = ab; k = 0; method = 2; text = 97 ∷ 98 ∷ 97 ∷ []; reported = 0 ∷ 1 ∷ [] })
+unfolding history after reportOf select matches excess sum cc
+example-once = refl
+
 -- the load brings back the text `a`; then the window at 0 begins in it and ends in the chunk
 pub example-loaded :
     history ab 0 2 (fed (98 ∷ []) accepted ∷ loaded (4 ∷ []) 0 accepted ∷ calls) .current
@@ -24,13 +31,24 @@ pub example-loaded :
 unfolding history after reportOf select matches excess sum cc
 example-loaded = refl
 
--- a refused open leaves the kept copy, and the next load brings it back
+-- a refused open or load leaves the kept copies, and the next load brings one back
 pub example-blank : history ab 0 2 (opened [] 0 1 refused ∷ calls) .current ≡ blank
 unfolding history after
 example-blank = refl
+
+pub example-not-loaded : history ab 0 2 (loaded [] 0 refused ∷ calls) .current ≡ blank
+unfolding history after
+example-not-loaded = refl
 
 pub example-kept :
     history ab 0 2 (loaded (4 ∷ []) 0 accepted ∷ opened [] 0 1 refused ∷ calls) .current
     ≡ holds (record { pattern = ab; k = 0; method = 2; text = 97 ∷ []; reported = [] })
 unfolding history after reportOf select matches excess sum cc
 example-kept = refl
+
+-- of two copies a load brings back the one that is meant, here the older
+pub example-older :
+    history ab 0 2 (loaded (4 ∷ []) 1 accepted ∷ saved (5 ∷ []) accepted ∷ calls) .current
+    ≡ holds (record { pattern = ab; k = 0; method = 2; text = 97 ∷ []; reported = [] })
+unfolding history after reportOf select matches excess sum cc
+example-older = refl

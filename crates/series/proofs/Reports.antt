@@ -2,10 +2,9 @@
 use mathlib.Core.Path.{_≡_, refl, sym, ap, ap₂, _∙_}
 use mathlib.Core.Bool.{Bool, true, false, cond, _&&_}
 use mathlib.Core.List.{List, [], _∷_, _++_}
-use Prim.Native.Nat.{ℕ, zero, suc, _+_, _-_, _≤_, _<_, min}
+use Prim.Native.Nat.{ℕ, zero, suc, _+_, _-_, _≤_, _<_}
 use native.Mathlib.Nat.{add-zero, zero-add, add-suc, suc-add}
 use native.Mathlib.Omega.{arith}
-use lib.Dec.{ltb}
 use lib.ListN.{length, take, drop, length-append, length-drop}
 use lib.Seq.{drop-drop, drop-append-le, take-append-le}
 use borrow.Author.Tests.{lt-ltb, le-ltb}
@@ -41,6 +40,14 @@ unfolding select
 select-none test s zero none = refl
 select-none test s (suc count) none =
     rw (none s (omega arith) (omega arith)) (select-none test (suc s) count (λ i least below. none i (omega arith) (omega arith)))
+
+-- a test that fails in the first places, and agrees with another one from then on
+select-from : (test test′ : ℕ → Bool) (a b all : ℕ) → all ≡ a + b → ((i : ℕ) → i < a → test i ≡ false) → ((i : ℕ) → a ≤ i → test i ≡ test′ i)
+    → select test 0 all ≡ select test′ (0 + a) b
+select-from test test′ a b all cut before beyond =
+    ap (select test 0) cut
+    ∙ select-cut test 0 a b
+    ∙ ap₂ _++_ (select-none test 0 a (λ i least below. before i (omega arith))) (select-same test test′ (0 + a) b (λ i least below. beyond i (omega arith)))
 
 -- tests that agree where one is d places further on
 select-shifted : (test test′ : ℕ → Bool) (d s count : ℕ) → ((i : ℕ) → test i ≡ test′ (d + i)) → shifted d (select test s count) ≡ select test′ (d + s) count
@@ -84,9 +91,6 @@ module _ (P : List ℕ) (k : ℕ) (text chunk : List ℕ) where
   matching : ℕ → Bool
   matching s = matches P k (window (length P) (text ++ chunk) s)
 
-  new : ℕ → Bool
-  new s = matching s && ltb (length text) (s + length P)
-
   -- the window starts beyond those of the text alone
   more : ℕ
   more = starts (length P) (text ++ chunk) - starts (length P) text
@@ -97,17 +101,10 @@ module _ (P : List ℕ) (k : ℕ) (text chunk : List ℕ) where
 
   -- they are those of the report
   report-starts : reportOf P k text chunk ≡ select matching (0 + starts (length P) text) more
-  unfolding reportOf matching new more
+  unfolding reportOf matching more
   report-starts =
-      ap (select new 0) all-starts
-      ∙ select-cut new 0 (starts (length P) text) more
-      ∙ ap₂ _++_ (select-none new 0 (starts (length P) text) before) (select-same new matching (0 + starts (length P) text) more beyond)
-    where
-      before : (i : ℕ) → 0 ≤ i → i < 0 + starts (length P) text → new i ≡ false
-      before i least below = and-false (matching i) _ (le-ltb (length text) (i + length P) (omega arith))
-
-      beyond : (i : ℕ) → 0 + starts (length P) text ≤ i → i < 0 + starts (length P) text + more → new i ≡ matching i
-      beyond i least below = and-true (matching i) _ (lt-ltb (length text) (i + length P) (omega arith))
+      select-from _ matching (starts (length P) text) more _ all-starts (λ i below. and-false (matching i) _ (le-ltb (length text) (i + length P) (omega arith)))
+      (λ i least. and-true (matching i) _ (lt-ltb (length text) (i + length P) (omega arith)))
 
   -- the longer text lists what the shorter one does, and then the report
   pub positions-append : positions P k (text ++ chunk) ≡ positions P k text ++ reportOf P k text chunk

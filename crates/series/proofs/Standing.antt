@@ -1,12 +1,10 @@
 -- The search that the last call handed back holds what the history does, call by call.
-use mathlib.Core.Path.{_≡_, refl, sym, ap, ap₂, _∙_, subst}
+use mathlib.Core.Path.{_≡_, sym, ap, ap₂, _∙_, subst}
 use mathlib.Core.List.{List, [], _∷_, _++_}
-use mathlib.Core.Logic.{_⊎_, ⊎-elim}
-use Prim.Native.Nat.{ℕ, zero, suc, _+_, _-_, _≤_, _<_, _^_}
-use native.Mathlib.Nat.{suc-ne-zero}
+use Prim.Native.Nat.{ℕ, suc, _+_, _-_, _≤_, _<_, _^_}
 use native.Mathlib.Omega.{arith}
-use lib.Dec.{eqb, eqb·suc-zero}
-use lib.ListN.{length, take, drop, length-append, length-drop}
+use lib.Dec.{eqb·suc-zero}
+use lib.ListN.{length, take, length-append, length-drop}
 use lib.Seq.{drop-nil}
 use Rattle.jumbled.specs.Match.{matches, window, starts, select, positions}
 use Rattle.jumbled.specs.Steps.{steps}

@@ -1,23 +1,23 @@
 -- What the tests of a call say of the parts that a search holds.
-use mathlib.Core.Path.{_≡_, refl, sym, ap, ap₂, _∙_}
-use mathlib.Core.Bool.{Bool, true, false, cond, not}
+use mathlib.Core.Path.{_≡_, refl, ap, ap₂, _∙_}
+use mathlib.Core.Bool.{Bool, true, false, not}
 use mathlib.Core.List.{List, [], _∷_, _++_}
-use Prim.Native.Nat.{ℕ, zero, suc, _+_, _-_, _≤_, _<_, _^_}
+use Prim.Native.Nat.{ℕ, _+_, _-_, _<_, _^_}
 use native.Mathlib.Nat.{suc-ne-zero}
 use native.Mathlib.Omega.{arith}
-use lib.Dec.{ltb, eqb}
-use lib.ListN.{length, take, drop, replicate, length-append}
+use lib.Dec.{ltb}
+use lib.ListN.{length, take, drop, replicate}
 use lib.Seq.{take-append-seam}
-use borrow.Author.Tests.{eq-eqb, ltb-false, le-ltb}
+use borrow.Author.Tests.{eq-eqb, ltb-false}
 use Rattle.jumbled.specs.Refusals.{Test, test, given, methodTests, patternTests, searchTests, feedTests, setMethodTests, saveTests, loadTests}
 use Rattle.jumbled.proofs.Admission.{given-none, Numbered, none, next, numbered-append, pattern-numbered, Admitted, admitted}
 use Rattle.listing.specs.Placed.{placed}
 use Rattle.image.specs.Image.{Parts, partsWith, image, saveOrder, Sized}
-use Rattle.image.specs.Decode.{badForm, partsOf}
+use Rattle.image.specs.Decode.{partsOf}
 use Rattle.image.proofs.Images.{image-taken, parts-back, save-order}
 use Rattle.search.specs.declared.Search.{Search}
-use Rattle.search.specs.Searches.{patternOf, tailOf, partsOfSearch, stored, blank, tailLength, badTail, tooLongPattern}
-use Rattle.search.specs.Calls.{feedNumber, setMethodNumber, saveNumber, loadNumber, badTailIn, imageOf}
+use Rattle.search.specs.Searches.{patternOf, tailOf, partsOfSearch, stored, blank, tailLength, badTail}
+use Rattle.search.specs.Calls.{feedNumber, setMethodNumber, saveNumber, loadNumber, badTailIn}
 
 -- ---- one list of tests after another
 

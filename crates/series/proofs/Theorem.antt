@@ -1,6 +1,6 @@
 -- The theorem on series of calls: document 01, demand 3. Its statement is `Right`, of specs/Series.antt.
 use mathlib.Core.Path.{_≡_, refl}
-use mathlib.Core.List.{List, [], _∷_}
+use mathlib.Core.List.{List}
 use mathlib.Core.Logic.{_⊎_, ⊎-elim}
 use Prim.Native.Nat.{ℕ, zero, suc}
 use Rattle.admit.specs.Numbers.{admissionNumber}
@@ -12,7 +12,7 @@ use Rattle.search.specs.declared.Kept.{Kept}
 use Rattle.search.specs.Answers.{answerNumber}
 use Rattle.search.specs.Whole.{Whole}
 use Rattle.search.specs.Calls.{Opened, Feeds, SetsMethod, Saves, Loads, savingNumber}
-use Rattle.series.specs.History.{Ledger, holds, History, verdict, Event, opened, fed, methodSet, saved, loaded, searched, after, history}
+use Rattle.series.specs.History.{History, verdict, Event, opened, fed, methodSet, saved, loaded, searched, after, history}
 use Rattle.series.specs.Series.{KeptAs, written, Run, fresh, opens, feeds, sets, saves, loads, wholes, AfterCall, Right}
 use Rattle.series.proofs.Standing.{Standing, Copies, none, sound-of, agrees, open-accepted, open-refused, feed-accepted, feed-refused, feed-reports, feed-while-blank, set-accepted, set-refused, set-while-blank, save-standing, save-copies, save-while-blank, load-accepted, load-number, load-refused}
 
