@@ -27,6 +27,19 @@ METHODS = (1, 2, 3, 4, 5)
 ORDERS = list(itertools.permutations((1, 2, 3, 4)))
 
 
+def around_difference(one, other):
+    """Two printed values, the long ones cut to where they first differ."""
+    at = 0
+    while at < min(len(one), len(other)) and one[at] == other[at]:
+        at += 1
+    start = at - 100 if at > 400 else 0
+    cut = []
+    for value in (one, other):
+        part = value[start : at + 400]
+        cut.append(("... " if start else "") + part + (" ..." if at + 400 < len(value) else ""))
+    return cut
+
+
 class Tally:
     def __init__(self, name):
         self.name = name
@@ -39,8 +52,9 @@ class Tally:
         else:
             self.differences += 1
             print("DIFFERENCE %s: %s" % (self.name, what))
-            print("  seen     %r" % (seen,))
-            print("  expected %r" % (expected,))
+            seen, expected = around_difference(repr(seen), repr(expected))
+            print("  seen     " + seen)
+            print("  expected " + expected)
 
     def guarded(self, what, action, *arguments):
         """Runs a check; a failed assertion inside is a difference too."""
