@@ -1,0 +1,797 @@
+#!/usr/bin/env python3
+"""Compares the program mixlist with the naive reference, and the reference
+with the sheet of small records.
+
+    python3 tools/compare.py path/to/mixlist
+
+Three parts, all made from one fixed seed: (a) the sheet, the widths under it
+and the examples of the refusals against reference.py; (b) made inputs run
+through mixlist, once per input, and its output compared byte for byte with
+the reference's; (c) series of feeds, saves, loads and changes of method in
+the reference against a whole search of the joined text.  Prints how many
+agreed and every difference; the exit status is 1 if there is any.
+"""
+
+import itertools
+import random
+import subprocess
+import sys
+import time
+
+sys.dont_write_bytecode = True
+
+import reference as ref
+
+SEED = 20260101
+METHODS = (1, 2, 3, 4, 5)
+ORDERS = list(itertools.permutations((1, 2, 3, 4)))
+
+
+def around_difference(one, other):
+    """Two printed values, the long ones cut to where they first differ."""
+    at = 0
+    while at < min(len(one), len(other)) and one[at] == other[at]:
+        at += 1
+    start = at - 100 if at > 400 else 0
+    cut = []
+    for value in (one, other):
+        part = value[start : at + 400]
+        cut.append(("... " if start else "") + part + (" ..." if at + 400 < len(value) else ""))
+    return cut
+
+
+class Tally:
+    def __init__(self, name):
+        self.name = name
+        self.agreed = 0
+        self.differences = 0
+
+    def same(self, what, seen, expected):
+        if seen == expected:
+            self.agreed += 1
+        else:
+            self.differences += 1
+            print("DIFFERENCE %s: %s" % (self.name, what))
+            seen, expected = around_difference(repr(seen), repr(expected))
+            print("  seen     " + seen)
+            print("  expected " + expected)
+
+    def guarded(self, what, action, *arguments):
+        """Runs a check; a failed assertion inside is a difference too."""
+        try:
+            action(self, *arguments)
+        except AssertionError as failure:
+            self.differences += 1
+            print("DIFFERENCE %s: %s: assertion: %s" % (self.name, what, failure))
+
+    def report(self, seconds):
+        print(
+            "%s: %d agreed, %d differences, %.1f s"
+            % (self.name, self.agreed, self.differences, seconds)
+        )
+
+
+# --- (a) The sheet, the widths, the examples --------------------------------
+
+# Pattern, k, text, positions, looks by method.
+SHEET = [
+    (b"ab", 0, b"aab", [1], {1: 3, 5: 3, 2: 4, 3: 4, 4: 4}),
+    (b"abc", 0, b"abcxxxabc", [0, 6], {1: 9, 2: 9, 3: 13}),
+    (b"aabb", 1, b"axbb", [0], {4: 4}),
+    (b"aabb", 1, b"xxbb", [], {4: 4}),
+    (b"a", 0, b"aba", [0, 2], {3: 3}),
+    (b"ab", 0, b"a", [], {1: 0, 2: 0, 3: 0, 4: 0, 5: 0}),
+    (b"ab", 0, b"xb", [], {5: 2}),
+    (b"accgta", 0, b"ccgatacgcattgac", [0, 1, 3, 4, 5], {1: 15}),
+]
+
+
+def letters(count):
+    """That many different bytes, none of them a newline."""
+    return bytes(range(65, 65 + count))
+
+
+def check_sheet(tally):
+    for pattern, k, text, positions, looks in SHEET:
+        row = "%r, %d, %r" % (pattern, k, text)
+        tally.same(row + " listed", ref.listed_positions(pattern, k, text), positions)
+        for method in METHODS:
+            places = [77] * (len(text) + 2)
+            refusal, found, seen = ref.whole_search(pattern, k, method, text, places)
+            what = "%s method %d" % (row, method)
+            if k > 0 and method in (2, 3, 5):
+                tally.same(what, (refusal, found, seen), (4, 0, 0))
+                tally.same(what + " list", places, [77] * (len(text) + 2))
+                continue
+            tally.same(what + " refusal", refusal, 0)
+            tally.same(
+                what + " list",
+                places,
+                positions + [77] * (len(text) + 2 - len(positions)),
+            )
+            tally.same(what + " found", found, len(positions))
+            if method in looks:
+                tally.same(what + " looks", seen, looks[method])
+
+
+def check_widths(tally):
+    def bits(what, pattern, k, method, expected):
+        tally.same(what + " bits", ref.bits_needed(pattern, k, method), expected)
+        tally.same(
+            what + " refusal",
+            ref.open_search(pattern, k, method)[0],
+            5 if expected > 64 else 0,
+        )
+
+    bits("31 letters, method 2", letters(31), 0, 2, 63)
+    bits("31 letters, method 3", letters(31), 0, 3, 64)
+    bits("32 letters, method 2", letters(32), 0, 2, 65)
+    bits("15 letters, k 3, method 4", letters(15), 3, 4, 64)
+    bits("16 letters, k 3, method 4", letters(16), 3, 4, 68)
+    for q, exact in ((10, True), (11, False)):
+        pattern = letters(q) + letters(1) * (63 - q)
+        what = "m 63, %d letters, method 5" % q
+        tally.same(what + " exact", ref.heap_is_exact(pattern), exact)
+        text = pattern + pattern[:1]
+        places = [0] * len(text)
+        tally.same(
+            what + " answer",
+            ref.whole_search(pattern, 0, 5, text, places),
+            (0, 2, 64 + (0 if exact else 2 * 63)),
+        )
+    for v, e in ((0, 0), (1, 0), (2, 1), (3, 2), (4, 2), (5, 3), (63, 6), (64, 6)):
+        tally.same("lg(%d)" % v, ref.lg(v), e)
+
+
+def check_examples(tally):
+    fresh = ref.open_search(b"ab", 0, 2)[1]
+    image = bytes.fromhex("04 010200 020200 030400 040000 6162 0002 00000000")
+    tally.same("image of a fresh search", ref.image_of(fresh), image)
+    tally.same("load of that image", ref.load(image), (0, fresh))
+    tally.same(
+        "mixlist example",
+        ref.program_output(b"2 0 abc\nabcxxxabc\n"),
+        b"mix abc method 2 k 0\n0\n6\nfound 2 looks 9\n",
+    )
+    tally.same("1", ref.open_search(b"", 0, 1), (1, ref.BLANK))
+    tally.same("2", ref.open_search(b"ab", 2, 1), (2, ref.BLANK))
+    tally.same("3", ref.open_search(b"ab", 0, 6), (3, ref.BLANK))
+    tally.same("4", ref.open_search(b"ab", 1, 2), (4, ref.BLANK))
+    tally.same("5", ref.open_search(letters(32), 0, 2), (5, ref.BLANK))
+    places = [7] * 65537
+    tally.same(
+        "6, whole search",
+        ref.whole_search(b"a", 0, 1, b"a" * 65537, places),
+        (6, 0, 0),
+    )
+    tally.same("6, list", places, [7] * 65537)
+    start = ref.open_search(b"a", 0, 1)[1]
+    tally.same("6, feed", ref.feed(start, b"a" * 65537, places), (6, 0, 0, start))
+    tally.same("7", ref.feed(start, b"aaa", [5, 5]), (7, 0, 0, start))
+    last = ref.Search(b"a", 0, 1, 4294967295, b"")
+    tally.same("8, load", ref.load(ref.image_of(last)), (0, last))
+    tally.same("8", ref.feed(last, b"a", [5]), (8, 0, 0, last))
+    tally.same("8, empty chunk", ref.feed(last, b"", []), (0, 0, 0, last))
+    near = ref.Search(b"aab", 1, 4, 4294967290, b"ab")
+    for size in range(8):
+        places = [3] * 9
+        refusal, found, looks, after = ref.feed(near, (b"aabaabaa")[:size], places)
+        tally.same("8, %d bytes more" % size, refusal, 8 if size > 5 else 0)
+        if not refusal:
+            tally.same(
+                "positions near the largest total",
+                places,
+                list(range(4294967288, 4294967288 + size)) + [3] * (9 - size),
+            )
+            tally.same("total", after.n, 4294967290 + size)
+    tally.same("9", ref.load(b"\x04"), (9, ref.BLANK))
+    for what, wrong, number in (
+        ("pattern of 65", ref.Search(b"a" * 65, 65, 6, 9, b""), 1),
+        ("no pattern", ref.BLANK, 1),
+        ("k of m", ref.Search(b"ab", 2, 6, 9, b""), 2),
+        ("method 0", ref.Search(b"ab", 1, 0, 9, b""), 3),
+        ("k with pairs", ref.Search(b"ab", 1, 3, 9, b""), 4),
+        ("65 bits", ref.Search(letters(32), 0, 2, 9, b""), 5),
+        ("tail too short", ref.Search(b"ab", 1, 4, 9, b""), 9),
+        ("tail too long", ref.Search(b"ab", 1, 4, 9, b"ab"), 9),
+        ("tail longer than the text", ref.Search(b"ab", 1, 4, 0, b"a"), 9),
+    ):
+        tally.same(what + ", load", ref.load(ref.image_of(wrong)), (number, ref.BLANK))
+        tally.same(what + ", feed", ref.feed(wrong, b"aa", [5]), (number, 0, 0, wrong))
+        tally.same(what + ", set method", ref.set_method(wrong, 7), (number, wrong))
+        tally.same(what + ", save", ref.save(wrong, bytearray(3)), (number, 0, wrong))
+    short = bytearray(b"\xee" * 19)
+    tally.same("10", ref.save(start, short), (10, 0, start))
+    tally.same("10, buffer", short, bytearray(b"\xee" * 19))
+    room = bytearray(b"\xee" * 22)
+    tally.same("20 bytes", ref.save(start, room), (0, 20, start))
+    tally.same("20 bytes, rest", bytes(room[20:]), b"\xee\xee")
+    tally.same("11", ref.program_output(b"abc"), b"refused 11\n")
+
+
+def check_images(tally, rng):
+    """Whatever is accepted after a change of an image is saved as it was."""
+    base = ref.Search(b"abca", 1, 4, 9, b"bca")
+    for order in ORDERS:
+        image = ref.image_of(base, order)
+        tally.same("load in order %r" % (order,), ref.load(image), (0, base))
+        tally.same("one byte short", ref.load(image[:-1]), (9, ref.BLANK))
+        tally.same("one byte more", ref.load(image + b"\0"), (9, ref.BLANK))
+        for _ in range(60):
+            changed = bytearray(image)
+            changed[rng.randrange(len(changed))] = rng.choice((0, 1, 2, 3, 4, 5, 64, 255))
+            refusal, search = ref.load(bytes(changed))
+            if refusal:
+                tally.same("refused load", search, ref.BLANK)
+            else:
+                tally.same("saved again", ref.image_of(search, order), bytes(changed))
+
+
+# --- (b) Made inputs for the program ----------------------------------------
+
+
+def random_bytes(rng, length):
+    return bytes(rng.randrange(256) for _ in range(length))
+
+
+def shuffled(rng, some):
+    some = bytearray(some)
+    rng.shuffle(some)
+    return bytes(some)
+
+
+def other_than_newline(rng):
+    c = rng.randrange(255)
+    return c + 1 if c >= 10 else c
+
+
+def make_pattern(rng, m, most_letters):
+    """m bytes from at most that many letters, never a newline."""
+    pool = [other_than_newline(rng) for _ in range(max(1, most_letters))]
+    return bytes(rng.choice(pool) for _ in range(m))
+
+
+def make_text(rng, pattern, k, length):
+    """Mixes of the pattern, nearly mixes, its letters, and any bytes."""
+    made = b""
+    while len(made) < length:
+        kind = rng.randrange(6)
+        if kind <= 1:
+            made += shuffled(rng, pattern)
+        elif kind <= 3:
+            part = bytearray(shuffled(rng, pattern))
+            for _ in range(rng.choice((1, k, k + 1))):
+                if part:
+                    part[rng.randrange(len(part))] = rng.randrange(256)
+            made += bytes(part)
+        elif kind == 4 and pattern:
+            made += bytes(rng.choice(pattern) for _ in range(rng.randrange(1, 5)))
+        else:
+            made += random_bytes(rng, rng.randrange(1, 4))
+    return made[:length]
+
+
+def line(method, k, pattern):
+    return b"%d %d " % (method, k) + pattern + b"\n"
+
+
+def first_line_inputs(rng):
+    """Malformed first lines: every byte value in every place of the line."""
+    for base, places in ((b"2 0 abc", range(5)), (b"4 12 abcabcabcabcabc", (2, 3, 4))):
+        rest = b"\nabcxxxabcabcabccbacba\n"
+        for at in places:
+            for c in range(256):
+                yield base[:at] + bytes([c]) + base[at + 1 :] + rest
+            yield base[:at] + base[at + 1 :] + rest
+            for c in b" 0123456789\n\t\r\0-+a":
+                yield base[:at] + bytes([c]) + base[at:] + rest
+        for end in range(len(base) + 1):
+            yield base[:end]
+            yield base[:end] + b"\n"
+    for k in range(100):
+        yield b"1 %02d abc\nabc" % k
+        yield b"1 %d abc\nabc" % k
+        yield b"1 %d \nabc" % k
+        yield b"1 1%02d abc\nabc" % k
+    for odd in (
+        b"", b"\n", b"\n\n", b" \n", b"  \n", b"   \n", b"abc", b"1", b"1 0 a",
+        b"1 0 a\r\na", b"1\t0\ta\na", b"01 0 a\na", b" 1 0 a\na", b"1  0 a\na",
+        b"1 0  a\n a", b"1 0 a \na ", b"1 0 a b\nb a", b"1 0  \n  ", b"1 0   \n   \n",
+        b"-1 0 a\na", b"+1 0 a\na", b"1 -0 a\na", b"1 +0 a\na", b"1 0x0 a\na",
+        b"\xef\xbc\x91 0 a\na", b"\xb2 0 a\na", b"1 \xb2 abc\nabc", b"\xef\xbb\xbf1 0 a\na",
+        b"\0 0 a\na", b"1 \0 a\na", b"1 0 \0\n\0\0", b"1 0 \n", b"1 0 \nabc", b"1 0\nabc",
+        b"1 0\n\nabc", b"1\n0\na\n", b"1 000 a\na", b"9 99 \n",
+    ):
+        yield odd
+
+
+def newline_inputs(rng):
+    """With and without a last newline, newlines in the text, no text."""
+    for method in METHODS:
+        for pattern in (b"a", b"ab", b"aba"):
+            for text in (b"", b"a", b"ab", b"aba", b"ab\nba", b"\n", b"\nab", b"ba\r"):
+                for end in (b"", b"\n", b"\n\n", b"\n\n\n", b"\r\n"):
+                    yield line(method, 0, pattern) + text + end
+
+
+def byte_inputs(rng):
+    """Every byte value as a pattern of its own, and beside its neighbours."""
+    for c in range(256):
+        near = bytes([c, (c + 1) % 256, (c - 1) % 256, c, c, c ^ 128])
+        for method in METHODS:
+            yield line(method, 0, bytes([c])) + near + b"\n"
+        yield line(4, 1, bytes([c, c, (c + 1) % 256])) + near * 3
+        yield line(1 + c % 5, 0, bytes([c, c ^ 128])) + near * 3
+    for method in METHODS:
+        yield line(method, 0, b"\xff\0") + bytes(range(256)) * 2
+
+
+def grid_inputs(rng):
+    """All methods, m = 1, 2, 3, 63, 64, all k; short, equal and long texts."""
+    for m in (1, 2, 3, 63, 64):
+        for k in range(m):
+            most = rng.choice((1, 2, 3, 5, 6, 7))
+            pattern = make_pattern(rng, m, most)
+            short = make_text(rng, pattern, k, rng.randrange(m))
+            equal = make_text(rng, pattern, k, m)
+            one_less = make_text(rng, pattern, k, m - 1)
+            long = make_text(rng, pattern, k, m + 1 + rng.randrange(70))
+            for method in METHODS if k == 0 else (1, 4):
+                for text in (short, one_less, equal, long):
+                    yield line(method, k, pattern) + text + rng.choice((b"", b"\n"))
+        for _ in range(25):
+            most = rng.choice((1, 2, 4, 8, 9, 10, 11, 12, 14, 31))
+            pattern = make_pattern(rng, m, most)
+            long = make_text(rng, pattern, 0, m + rng.randrange(70))
+            for method in METHODS:
+                yield line(method, 0, pattern) + long + rng.choice((b"", b"\n"))
+
+
+def random_inputs(rng):
+    for _ in range(500):
+        m = rng.choice((rng.randrange(1, 9), rng.randrange(1, 65)))
+        pattern = make_pattern(rng, m, rng.choice((1, 2, 3, 4, 8, 16)))
+        k = rng.choice((0, rng.randrange(m), rng.randrange(min(m, 4))))
+        text = make_text(rng, pattern, k, rng.randrange(60 + m))
+        for method in (1, 4) if k else METHODS:
+            yield line(method, k, pattern) + text + rng.choice((b"", b"\n"))
+
+
+def edge_inputs(rng):
+    """Both sides of refusals 1 to 4, and which comes first of several."""
+    text = b"abcabcaabbcc\n"
+    for m in (0, 1, 2, 3, 10, 62, 63, 64, 65, 66, 255, 256, 257, 320):
+        for k in sorted({0, 1, m - 1, m, m + 1, 64, 99}):
+            if 0 <= k <= 99:
+                for method in range(10):
+                    most = (2, 3, 40)[(method + k + m) % 3]
+                    pattern = bytes(97 + i % most for i in range(m))
+                    yield line(method, k, pattern) + text
+
+
+def width_inputs(rng):
+    """Fields of 62 to 67 bits in methods 2, 3 and 4 (refusal 5)."""
+    for q in range(28, 36):
+        for method in METHODS:
+            yield line(method, 0, letters(q)) + shuffled(rng, letters(q)) + letters(3)
+    for q in range(5, 18):
+        for k in range(64):
+            if k < q or k % 4 == 0:
+                pattern = letters(q) + letters(1) * max(0, k + 1 - q)
+                yield line(4, k, pattern) + shuffled(rng, pattern) + b"ABC"
+    wanted = {}
+    for _ in range(20000):
+        method = rng.choice((2, 3, 4, 4, 4))
+        m = rng.randrange(1, 65)
+        k = rng.randrange(m) if method == 4 else 0
+        pattern = make_pattern(rng, m, rng.randrange(1, 40))
+        bits = ref.bits_needed(pattern, k, method)
+        if 62 <= bits <= 67 and wanted.get((method, bits), 0) < 12:
+            wanted[method, bits] = wanted.get((method, bits), 0) + 1
+            yield line(method, k, pattern) + make_text(rng, pattern, k, m + 9)
+        if len(wanted) == 18 and min(wanted.values()) == 12:
+            break
+
+
+def heap_inputs(rng):
+    """Method 5: exact and verified patterns, and candidates that don't match."""
+    for m, q in ((15, 15), (16, 15), (16, 16), (31, 12), (31, 13), (31, 14), (31, 20),
+                 (47, 15), (63, 9), (63, 10), (63, 11), (63, 12), (63, 16), (63, 63),
+                 (64, 10), (64, 11), (64, 64)):
+        for _ in range(4):
+            pool = sorted(rng.sample([c for c in range(256) if c != 10], q))
+            pattern = bytes(pool) + bytes(rng.choice(pool) for _ in range(m - q))
+            text = b""
+            for _ in range(3):
+                part = bytearray(shuffled(rng, pattern))
+                # The highest letters may have the value 0, like other bytes.
+                for i, c in enumerate(part):
+                    if c in pool[11:] and rng.randrange(4) == 0:
+                        part[i] = rng.choice((pool[-1], 10, rng.randrange(256)))
+                text += bytes(part)
+                text += shuffled(rng, pattern)[: rng.randrange(m)]
+            text += shuffled(rng, pattern)
+            yield line(5, 0, pattern) + text + b"\n"
+
+
+def size_inputs(rng):
+    """Both sides of refusal 6, and refusal 6 before 11 and 1 to 5."""
+    for size in (16383, 16384, 16385, 16386, 20000, 32768, 65536, 65537, 70000):
+        for head, unit in (
+            (b"1 0 a\n", b"ab"),
+            (b"2 0 ab\n", b"ab"),
+            (b"3 0 aab\n", b"abaxx"),
+            (b"4 1 abcd\n", b"abxdcbad\n"),
+            (b"5 0 abc\n", b"cabx"),
+            (b"1 0 ", b"a"),
+            (b"1 2 ab\n", b"a"),
+            (b"7 0 ab\n", b"a"),
+            (b"abc", b"d"),
+            (b"", b"\n"),
+        ):
+            data = (head + unit * size)[:size]
+            yield data
+            if size > 16384 or b"\n" not in head or size % 2:
+                yield data[:-1] + b"\n"
+    # A first line that takes up the whole input, and patterns that long.
+    for size in (16383, 16384, 16385):
+        yield (b"1 0 " + b"a" * size)[: size - 1] + b"\n"
+
+
+def long_inputs(rng):
+    for method, k, m, most in (
+        (1, 5, 64, 40), (2, 0, 20, 4), (3, 0, 21, 4), (4, 3, 24, 4), (5, 0, 63, 12),
+    ):
+        pattern = make_pattern(rng, m, most)
+        yield line(method, k, pattern) + make_text(rng, pattern, k, 3000) + b"\n"
+    for method in METHODS:
+        pattern = make_pattern(rng, 3, 2)
+        yield line(method, 0, pattern) + make_text(rng, pattern, 0, 2000)
+
+
+FAMILIES = (
+    first_line_inputs,
+    newline_inputs,
+    byte_inputs,
+    grid_inputs,
+    random_inputs,
+    edge_inputs,
+    width_inputs,
+    heap_inputs,
+    size_inputs,
+    long_inputs,
+)
+
+
+def shown(data):
+    if len(data) <= 400:
+        return repr(data)
+    return "%r ... (%d bytes)" % (data[:400], len(data))
+
+
+class Coverage:
+    """What the made inputs reached, so that a gap would be seen."""
+
+    def __init__(self):
+        self.answers = {}
+        self.by_method = {}
+        self.in_pattern = set()
+        self.in_text = set()
+        self.bits = set()
+        self.grid = set()
+        self.sides = {"shorter": 0, "equal": 0, "longer": 0}
+        self.verified = 0
+        self.failed_verification = 0
+
+    def add(self, data, output):
+        word = output.split(b"\n", 1)[0].decode("latin-1")
+        key = word if word.startswith("refused ") else "accepted"
+        self.answers[key] = self.answers.get(key, 0) + 1
+        if len(data) > ref.LONGEST_INPUT:
+            return
+        parsed = ref.parse_input(data)
+        if parsed is None:
+            return
+        method, k, pattern, text = parsed
+        if key == "refused 5":
+            self.bits.add((method, ref.bits_needed(pattern, k, method)))
+        if key != "accepted":
+            return
+        if method in (2, 3, 4):
+            self.bits.add((method, ref.bits_needed(pattern, k, method)))
+        count, matching = self.by_method.get(method, (0, 0))
+        found = ref.listed_positions(pattern, k, text)
+        self.by_method[method] = (count + 1, matching + (1 if found else 0))
+        self.in_pattern |= set(pattern)
+        self.in_text |= set(text)
+        m, n = len(pattern), len(text)
+        self.grid.add((method, m, k))
+        self.sides["shorter" if n < m else "equal" if n == m else "longer"] += 1
+        if method == 5 and not ref.heap_is_exact(pattern) and n >= m:
+            looked = (ref.steps_heap_values(pattern, k, text)[1] - n) // m
+            self.verified += looked
+            self.failed_verification += looked - len(found)
+
+    def report(self):
+        for key in sorted(self.answers, key=lambda word: (len(word), word)):
+            print("  %s: %d" % (key, self.answers[key]))
+        for method in sorted(self.by_method):
+            print(
+                "  method %d: %d accepted, %d of them with a match"
+                % ((method,) + self.by_method[method])
+            )
+        print(
+            "  byte values in patterns: %d, in texts: %d"
+            % (len(self.in_pattern), len(self.in_text))
+        )
+        for method in (2, 3, 4):
+            near = sorted(b for at, b in self.bits if at == method and 61 <= b <= 68)
+            print("  method %d fields of %s bits" % (method, near))
+        print(
+            "  texts shorter than the pattern: %(shorter)d, of its length: %(equal)d,"
+            " longer: %(longer)d" % self.sides
+        )
+        print(
+            "  windows verified in method 5: %d, of them no match: %d"
+            % (self.verified, self.failed_verification)
+        )
+
+    def gaps(self):
+        """What should have been reached and was not."""
+        missing = []
+        for number in (1, 2, 3, 4, 5, 6, 11):
+            if "refused %d" % number not in self.answers:
+                missing.append("refusal %d" % number)
+        if len(self.in_pattern) != 255 or len(self.in_text) != 256:
+            missing.append("byte values")
+        for m in (1, 2, 3, 63, 64):
+            for k in range(m):
+                for method in (1, 4) if k else METHODS:
+                    if (method, m, k) not in self.grid:
+                        missing.append("method %d, m %d, k %d" % (method, m, k))
+        for method in (2, 3, 4):
+            for bits in (64, 65):
+                if (method, bits) not in self.bits and (method, bits + 1) not in self.bits:
+                    missing.append("method %d, %d bits" % (method, bits))
+        if min(self.sides.values()) == 0 or self.failed_verification == 0:
+            missing.append("a length of text, or a failed verification")
+        return missing
+
+
+def check_program(tally, path, coverage):
+    seen = set()
+    statuses = {}
+    for family in FAMILIES:
+        rng = random.Random("%d %s" % (SEED, family.__name__))
+        inputs = 0
+        for data in family(rng):
+            if data in seen:
+                continue
+            seen.add(data)
+            inputs += 1
+            try:
+                expected = ref.program_output(data)
+            except AssertionError as failure:
+                tally.differences += 1
+                print("DIFFERENCE %s: %s: assertion: %s"
+                      % (tally.name, shown(data), failure))
+                continue
+            run = subprocess.run(
+                [path], input=data, stdout=subprocess.PIPE, stderr=subprocess.PIPE,
+                timeout=20,
+            )
+            status = (expected.startswith(b"refused "), run.returncode)
+            statuses[status] = statuses.get(status, 0) + 1
+            tally.same(
+                "input %s (expected is the reference)" % shown(data),
+                (run.stdout, run.stderr, run.returncode < 0),
+                (expected, b"", False),
+            )
+            coverage.add(data, expected)
+        print("  %s: %d inputs" % (family.__name__.replace("_", " "), inputs))
+    for (refused, status), count in sorted(statuses.items()):
+        print(
+            "  exit status %d after %s: %d"
+            % (status, "a refusal" if refused else "an answer", count)
+        )
+
+
+# --- (c) Series of calls in the reference -----------------------------------
+
+
+class Ledger:
+    def __init__(self, pattern, k, method):
+        self.pattern, self.k, self.method = pattern, k, method
+        self.text = b""
+        self.reports = []
+
+    def copy(self):
+        other = Ledger(self.pattern, self.k, self.method)
+        other.text, other.reports = self.text, list(self.reports)
+        return other
+
+
+def whole_searches_agree(tally, ledger):
+    tally.same(
+        "reports of %r, k %d, text %r" % (ledger.pattern, ledger.k, ledger.text),
+        ledger.reports,
+        ref.listed_positions(ledger.pattern, ledger.k, ledger.text),
+    )
+    for method in METHODS:
+        places = [9] * (len(ledger.text) + 1)
+        refusal, found, _ = ref.whole_search(
+            ledger.pattern, ledger.k, method, ledger.text, places
+        )
+        if refusal:
+            tally.same("whole search refused", refusal in (4, 5), True)
+        else:
+            tally.same("whole search, method %d" % method, places[:found], ledger.reports)
+
+
+def fed(tally, search, ledger, chunk, rng):
+    places = [5] * (len(chunk) + rng.randrange(3))
+    before = ledger.text
+    kept = before[len(before) - min(len(before), len(ledger.pattern) - 1) :]
+    joined = before + chunk
+    report = [
+        s
+        for s in ref.listed_positions(ledger.pattern, ledger.k, joined)
+        if s + len(ledger.pattern) > len(before)
+    ]
+    looks = ref.STEPS[ledger.method](ledger.pattern, ledger.k, kept + chunk)[1]
+    room = len(places)
+    refusal, found, seen, search = ref.feed(search, chunk, places)
+    tally.same("feed", (refusal, found, seen), (0, len(report), looks))
+    tally.same("list of a feed", places, report + [5] * (room - len(report)))
+    ledger.text = joined
+    ledger.reports += report
+    return search
+
+
+def one_series(tally, rng, number):
+    order = ORDERS[number % 24]
+    m = rng.choice((1, 2, 3, 4, 5, 7, 8, 16, 63, 64))
+    pattern = bytes(rng.choice(b"abcd\n\0\xff") for _ in range(m))
+    k = rng.choice((0, 0, rng.randrange(m)))
+    allowed = [x for x in METHODS if ref.refuse_terms(pattern, k, x) == 0]
+    method = rng.choice(allowed)
+    refusal, search = ref.open_search(pattern, k, method)
+    tally.same("open", refusal, 0)
+    ledger = Ledger(pattern, k, method)
+    kept = []
+    for _ in range(rng.randrange(4, 16)):
+        call = rng.randrange(10)
+        if call <= 4:
+            chunk = make_text(rng, pattern, k, rng.choice((0, 1, 2, m - 1, m, rng.randrange(20))))
+            search = fed(tally, search, ledger, chunk, rng)
+        elif call == 5:
+            wanted = rng.randrange(8)
+            refusal, after = ref.set_method(search, wanted)
+            tally.same(
+                "set method %d" % wanted,
+                (refusal, after),
+                (0, search._replace(method=wanted))
+                if wanted in allowed
+                else (ref.refuse_terms(pattern, k, wanted), search),
+            )
+            search = after
+            if not refusal:
+                ledger.method = wanted
+        elif call <= 7:
+            needed = 13 + m + 2 + 4 + min(len(ledger.text), m - 1)
+            buffer = bytearray(b"\xaa" * (needed + rng.choice((-1, 0, 3))))
+            room = len(buffer)
+            refusal, length, after = ref.save(search, buffer, order)
+            tally.same("search after save", after, search)
+            if room < needed:
+                tally.same("save", (refusal, length), (10, 0))
+                tally.same("buffer of a refusal", bytes(buffer), b"\xaa" * room)
+            else:
+                tally.same("save", (refusal, length), (0, needed))
+                tally.same("rest of the buffer", bytes(buffer[length:]), b"\xaa" * (room - length))
+                image = bytes(buffer[:length])
+                kept.append((image, ledger.copy(), search))
+                for other in ORDERS:
+                    tally.same(
+                        "load in order %r" % (other,),
+                        ref.load(ref.image_of(search, other)),
+                        (0, search),
+                    )
+        elif call == 8 and kept:
+            image, copy, saved = rng.choice(kept)
+            refusal, search = ref.load(image)
+            tally.same("load", (refusal, search), (0, saved))
+            ledger = copy.copy()
+        elif call == 9 and kept:
+            # A refused load or open leaves the blank search.
+            image, copy, saved = rng.choice(kept)
+            if rng.randrange(2):
+                refusal, blank = ref.load(image[:-1])
+                tally.same("refused load", (refusal, blank), (9, ref.BLANK))
+            else:
+                refusal, blank = ref.open_search(pattern, m, method)
+                tally.same("refused open", (refusal, blank), (2, ref.BLANK))
+            tally.same("blank feed", ref.feed(blank, b"", []), (1, 0, 0, blank))
+            tally.same("blank set method", ref.set_method(blank, 1), (1, blank))
+            tally.same("blank save", ref.save(blank, bytearray(99)), (1, 0, blank))
+            refusal, search = ref.load(image)
+            tally.same("load", (refusal, search), (0, saved))
+            ledger = copy.copy()
+        tail = ledger.text[len(ledger.text) - min(len(ledger.text), m - 1) :]
+        tally.same(
+            "search after a call",
+            search,
+            ref.Search(pattern, k, ledger.method, len(ledger.text), tail),
+        )
+        whole_searches_agree(tally, ledger)
+
+
+def all_cuts(tally, rng):
+    """Short texts cut at every two places, in every method."""
+    for pattern, k in ((b"a", 0), (b"ab", 0), (b"aab", 1), (b"abac", 0), (b"abac", 2)):
+        text = make_text(rng, pattern, k, 11)
+        for method in METHODS:
+            if ref.refuse_terms(pattern, k, method):
+                continue
+            for first in range(len(text) + 1):
+                for second in range(first, len(text) + 1):
+                    search = ref.open_search(pattern, k, method)[1]
+                    ledger = Ledger(pattern, k, method)
+                    for chunk in (text[:first], text[first:second], text[second:]):
+                        search = fed(tally, search, ledger, chunk, rng)
+                    tally.same(
+                        "cuts at %d and %d" % (first, second),
+                        ledger.reports,
+                        ref.listed_positions(pattern, k, text),
+                    )
+
+
+def check_series(tally):
+    rng = random.Random("%d series" % SEED)
+    tally.guarded("all cuts", all_cuts, rng)
+    for number in range(480):
+        tally.guarded("series %d" % number, one_series, rng, number)
+
+
+def main(arguments):
+    if len(arguments) != 2:
+        print("usage: python3 tools/compare.py path/to/mixlist", file=sys.stderr)
+        return 2
+    started = time.monotonic()
+
+    sheet = Tally("(a) sheet, widths, examples")
+    sheet.guarded("sheet", check_sheet)
+    sheet.guarded("widths", check_widths)
+    sheet.guarded("examples", check_examples)
+    sheet.guarded("images", check_images, random.Random("%d images" % SEED))
+    after_sheet = time.monotonic()
+    sheet.report(after_sheet - started)
+
+    program = Tally("(b) made inputs through mixlist")
+    coverage = Coverage()
+    check_program(program, arguments[1], coverage)
+    coverage.report()
+    for gap in coverage.gaps():
+        program.differences += 1
+        print("DIFFERENCE %s: not reached: %s" % (program.name, gap))
+    after_program = time.monotonic()
+    program.report(after_program - after_sheet)
+
+    series = Tally("(c) series of calls")
+    check_series(series)
+    series.report(time.monotonic() - after_program)
+
+    differences = sheet.differences + program.differences + series.differences
+    print(
+        "all: %d agreed, %d differences, %.1f s"
+        % (
+            sheet.agreed + program.agreed + series.agreed,
+            differences,
+            time.monotonic() - started,
+        )
+    )
+    return 1 if differences else 0
+
+
+if __name__ == "__main__":
+    sys.exit(main(sys.argv))
