@@ -28,7 +28,7 @@ fn larger(a: usize, b: usize) -> usize
 }
 
 // The width of the field of a byte that the pattern has count times: document 01, "The five methods", 2 to 4.
-pub fn own_width(count: usize, k: usize, method: u8) -> usize
+fn own_width(count: usize, k: usize, method: u8) -> usize
     requires { ⌜ (count ≤ 64) × (k ≤ 64) ⌝ }
     ensures { λ r. ⌜ r ≡ layoutOf k method .own count ⌝ }
 {
@@ -40,7 +40,7 @@ pub fn own_width(count: usize, k: usize, method: u8) -> usize
 }
 
 // The width of the field that all other bytes share: 2 to 4 there.
-pub fn shared_width(k: usize, method: u8) -> usize
+fn shared_width(k: usize, method: u8) -> usize
     requires { ⌜ k ≤ 64 ⌝ }
     ensures { λ r. ⌜ r ≡ layoutOf k method .common ⌝ }
 {

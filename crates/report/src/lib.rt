@@ -213,7 +213,7 @@ fn write_labeled_line(word: &[u8], n: usize, buffer: &mut [u8], at: usize) -> us
 }
 
 // Writes the line of a refusal.
-pub fn write_refusal(number: usize, buffer: &mut [u8], at: usize) -> usize
+fn write_refusal(number: usize, buffer: &mut [u8], at: usize) -> usize
     requires { ⌜ at + length (refusalText number) ≤ length (now buffer) ⌝ }
     ensures { λ r. ⌜ Written (now (buffer .entry)) at (refusalText number) (now (buffer .exit)) r ⌝ }
 {
@@ -221,7 +221,7 @@ pub fn write_refusal(number: usize, buffer: &mut [u8], at: usize) -> usize
 }
 
 // Writes the header line, which repeats the fields of the request.
-pub fn write_header(pattern: &[u8], method: u8, k: u8, buffer: &mut [u8], at: usize) -> usize
+fn write_header(pattern: &[u8], method: u8, k: u8, buffer: &mut [u8], at: usize) -> usize
     requires { ⌜ at + length (header (now pattern) k method) ≤ length (now buffer) ⌝ }
     ensures { λ r. ⌜ Written (now (buffer .entry)) at (header (now (pattern .entry)) k method) (now (buffer .exit)) r ⌝ }
 {
@@ -232,7 +232,7 @@ pub fn write_header(pattern: &[u8], method: u8, k: u8, buffer: &mut [u8], at: us
 }
 
 // Writes the first `count` positions of the list, each as a line.
-pub fn write_positions(list: &[u32], count: usize, buffer: &mut [u8], at: usize) -> usize
+fn write_positions(list: &[u32], count: usize, buffer: &mut [u8], at: usize) -> usize
     requires { ⌜ (count ≤ length (now list)) × (at + length (positionLines (take count (now list))) ≤ length (now buffer)) ⌝ }
     ensures { λ r. ⌜ Written (now (buffer .entry)) at (positionLines (take count (now (list .entry)))) (now (buffer .exit)) r ⌝ }
 {
@@ -246,7 +246,7 @@ pub fn write_positions(list: &[u32], count: usize, buffer: &mut [u8], at: usize)
 }
 
 // Writes the last line: how many positions were found, and the looks.
-pub fn write_counts(found: usize, looks: usize, buffer: &mut [u8], at: usize) -> usize
+fn write_counts(found: usize, looks: usize, buffer: &mut [u8], at: usize) -> usize
     requires { ⌜ at + length (counts found looks) ≤ length (now buffer) ⌝ }
     ensures { λ r. ⌜ Written (now (buffer .entry)) at (counts found looks) (now (buffer .exit)) r ⌝ }
 {
