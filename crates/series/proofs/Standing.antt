@@ -14,6 +14,7 @@ use Rattle.listing.specs.Placed.{placed, shifted}
 use Rattle.listing.proofs.Placing.{length-shifted}
 use Rattle.image.specs.Image.{Parts, partsWith, image, saveOrder}
 use Rattle.image.specs.Decode.{partsOf}
+use Rattle.image.proofs.Images.{save-order}
 use Rattle.admit.specs.Numbers.{admissionNumber}
 use Rattle.search.specs.declared.Search.{Search}
 use Rattle.search.specs.declared.Answer.{Answer}
@@ -234,7 +235,7 @@ module _ {newMethod : ℕ} {r : Held} where
 
 module _ {before after : List ℕ} {r : Kept} where
   -- what was written is the image of the search
-  held-written : {s : Search} → Saves s before after r → savingNumber (r .saving) ≡ 0 → written after r ≡ imageOf s
+  pub held-written : {s : Search} → Saves s before after r → savingNumber (r .saving) ≡ 0 → written after r ≡ imageOf s
   held-written {s} told e =
       let ok : saveNumber s before ≡ 0 = sym (told .number) ∙ e in
       let len : savingLength (r .saving) ≡ length (imageOf s) = rw ok at (told .len) in
@@ -259,7 +260,7 @@ module _ {before after : List ℕ} {r : Kept} where
 module _ {bytes : List ℕ} {r : Held} (told : Loads bytes r) where
   -- the image of a ledger's parts
   load-ok : (L : Ledger) → Sound L → image saveOrder (partsHeld L) ≡ bytes → loadNumber bytes ≡ 0
-  load-ok L sound e = ap loadNumber (sym e) ∙ load-taken (partsHeld L) (sound .taken) (tail-length L) (sound .fits)
+  load-ok L sound e = ap loadNumber (sym e) ∙ load-taken save-order (partsHeld L) (sound .taken) (tail-length L) (sound .fits)
 
   load-back : (L : Ledger) → Sound L → image saveOrder (partsHeld L) ≡ bytes → Standing (holds L) (r .search)
   load-back L sound e =
@@ -267,7 +268,7 @@ module _ {bytes : List ℕ} {r : Held} (told : Loads bytes r) where
       is-held sound
       (rw ok at (told .search)
       ∙ ap (λ (b : List ℕ). stored (partsOf b)) (sym e)
-      ∙ ap stored (load-parts (partsHeld L) (sound .taken) (tail-length L) (sound .fits)))
+      ∙ ap stored (load-parts save-order (partsHeld L) (sound .taken) (tail-length L) (sound .fits)))
 
   pub load-accepted : {kept : List Copy} {which : ℕ} → Copies kept → KeptAs bytes kept which → Standing (broughtBack kept which) (r .search)
   load-accepted (more {copy = copy} sound e copies) (latest q) = load-back (copy .ledger) sound (sym e ∙ q)

@@ -12,9 +12,9 @@ use borrow.Author.Tests.{eq-eqb, ltb-false}
 use Rattle.jumbled.specs.Refusals.{Test, test, given, methodTests, patternTests, searchTests, feedTests, setMethodTests, saveTests, loadTests}
 use Rattle.jumbled.proofs.Admission.{given-none, Numbered, none, next, numbered-append, pattern-numbered, Admitted, admitted}
 use Rattle.listing.specs.Placed.{placed}
-use Rattle.image.specs.Image.{Parts, partsWith, image, saveOrder, Sized}
+use Rattle.image.specs.Image.{Parts, partsWith, image, IsOrder, Sized}
 use Rattle.image.specs.Decode.{partsOf}
-use Rattle.image.proofs.Images.{image-taken, parts-back, save-order}
+use Rattle.image.proofs.Images.{image-taken, parts-back}
 use Rattle.search.specs.declared.Search.{Search}
 use Rattle.search.specs.Searches.{patternOf, tailOf, partsOfSearch, stored, blank, tailLength, badTail}
 use Rattle.search.specs.Calls.{feedNumber, setMethodNumber, saveNumber, loadNumber, badTailIn}
@@ -22,7 +22,7 @@ use Rattle.search.specs.Calls.{feedNumber, setMethodNumber, saveNumber, loadNum
 -- ---- one list of tests after another
 
 -- nothing is given: nothing of either list
-both-none : (ts us : List Test) → Numbered ts → given (ts ++ us) ≡ 0 → (given ts ≡ 0) × (given us ≡ 0)
+pub both-none : (ts us : List Test) → Numbered ts → given (ts ++ us) ≡ 0 → (given ts ≡ 0) × (given us ≡ 0)
 unfolding given
 both-none ts us none e = (refl, e)
 both-none ts us (next {n = n} {b = true} more) e = absurd (suc-ne-zero n e)
@@ -99,24 +99,24 @@ pub save-blank : (buffer : List ℕ) → saveNumber blank buffer ≡ 1
 unfolding saveNumber saveTests searchTests patternTests given
 save-blank buffer = refl
 
--- ---- load gets what a save wrote
+-- ---- load gets an image, in whatever order
 
 pub take-placed-first : (list numbers : List ℕ) → take (length numbers) (placed list 0 numbers) ≡ numbers
 unfolding placed
 take-placed-first list numbers = take-append-seam numbers (drop (0 + length numbers) list)
 
-module _ (parts : Parts) (pattern-admitted : given (patternTests (parts .pattern) (parts .k) (parts .method)) ≡ 0)
+module _ {order : List ℕ} (o : IsOrder order) (parts : Parts) (pattern-admitted : given (patternTests (parts .pattern) (parts .k) (parts .method)) ≡ 0)
     (tail-right : length (parts .tail) ≡ tailLength (length (parts .pattern)) (parts .total)) (total-fits : parts .total < 2 ^ 32) where
   sized : Sized parts
   sized =
       let a : Admitted (parts .pattern) (parts .k) (parts .method) = admitted (parts .pattern) (parts .k) (parts .method) pattern-admitted in
       record { pattern-short = omega arith; tail-short = omega arith; total-fits = total-fits }
 
-  pub load-parts : partsOf (image saveOrder parts) ≡ parts
-  load-parts = parts-back save-order sized
+  pub load-parts : partsOf (image order parts) ≡ parts
+  load-parts = parts-back o sized
 
-  pub load-taken : loadNumber (image saveOrder parts) ≡ 0
+  pub load-taken : loadNumber (image order parts) ≡ 0
   unfolding loadNumber loadTests given
   load-taken =
-      ap₂ (λ (bad : Bool) (p : Parts). given (loadTests bad (p .pattern) (p .k) (p .method) (badTailIn p))) (image-taken save-order sized) load-parts
+      ap₂ (λ (bad : Bool) (p : Parts). given (loadTests bad (p .pattern) (p .k) (p .method) (badTailIn p))) (image-taken o sized) load-parts
       ∙ (search-none (parts .pattern) (parts .k) (parts .method) (badTailIn parts) pattern-admitted (ap not (eq-eqb _ _ tail-right)))
