@@ -1,4 +1,2 @@
 pub mod Windows
 pub mod Progress
-pub mod Counting
-pub mod Hashing

@@ -16,12 +16,12 @@ use Rattle.parikh.specs.Table.{parikh}
 use Rattle.heap.specs.declared.HeapTable.{HeapTable}
 use Rattle.heap.specs.Table.{HeapTabled}
 use Rattle.listing.specs.declared.Stretch.{Stretch}
 use Rattle.forward.specs.Windows.{lead}
 use Rattle.forward.proofs.Windows.{window-part}
 use Rattle.forward.proofs.Progress.{Progress, progress-none, kept-length, Turn, whole, last-byte, first-byte, both-bytes, by-last, by-first, window-whole, has-room, has-place, has-number, has-looks, turn-listed, turn-skipped}
-use Rattle.forward.proofs.Hashing.{summing-more, summing-less, judged-other, judged-exact, judged-verified}
-use Rattle.forward.proofs.hcam_windows.Statement.{statement}
-use Rattle.forward.proofs.hcam_windows.Tie as tie
+use Rattle.hcam.proofs.Hashing.{summing-more, summing-less, judged-other, judged-exact, judged-verified}
+use Rattle.hcam.proofs.hcam_windows.Statement.{statement}
+use Rattle.hcam.proofs.hcam_windows.Tie as tie
 
 -- What holds before the window at s
 record Running (P : List ℕ) (T : List ℕ) (stretch : Stretch) (before after : List ℕ) (sum at looks s : ℕ) : Type 0 where

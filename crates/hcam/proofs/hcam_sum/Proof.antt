@@ -7,10 +7,10 @@ use lib.ListN.{length, getD, take}
 use lib.Seq.{take-all}
 use Rattle.jumbled.specs.Heap.{heapValue, heapSum}
 use Rattle.parikh.specs.Table.{tabulate}
 use Rattle.forward.proofs.Windows.{take-next}
-use Rattle.forward.proofs.Hashing.{heapSum-nil, summing-more}
-use Rattle.forward.proofs.hcam_sum.Statement.{statement}
-use Rattle.forward.proofs.hcam_sum.Tie as tie
+use Rattle.hcam.proofs.Hashing.{heapSum-nil, summing-more}
+use Rattle.hcam.proofs.hcam_sum.Statement.{statement}
+use Rattle.hcam.proofs.hcam_sum.Tie as tie
 
 abbrev Inv-loop : tie.InvT-loop
 Inv-loop bytes values sum₀ i₀ i-end sum i =

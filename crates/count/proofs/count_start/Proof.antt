@@ -7,11 +7,11 @@ use lib.Dec.{leb}
 use lib.ListN.{length, getD, take, length-take}
 use Rattle.jumbled.specs.Match.{Bytes}
 use Rattle.jumbled.proofs.Counts.{bytes-take}
-use Rattle.forward.specs.Counting.{Counting}
+use Rattle.count.specs.Counting.{Counting}
 use Rattle.forward.proofs.Windows.{take-next}
-use Rattle.forward.proofs.Counting.{counting-none, counting-more, counter-room, surplus-room}
-use Rattle.forward.proofs.count_start.Statement.{statement}
-use Rattle.forward.proofs.count_start.Tie as tie
+use Rattle.count.proofs.Counting.{counting-none, counting-more, counter-room, surplus-room}
+use Rattle.count.proofs.count_start.Statement.{statement}
+use Rattle.count.proofs.count_start.Tie as tie
 
 -- What holds after the first i bytes
 record Passed (P T counts : List ℕ) (surplus looks i : ℕ) : Type 0 where

@@ -12,12 +12,12 @@ use Rattle.jumbled.specs.Match.{window}
 use Rattle.jumbled.specs.Steps.{countJudged}
 use Rattle.parikh.specs.Table.{parikh}
 use Rattle.listing.specs.declared.Stretch.{Stretch}
 use Rattle.forward.specs.Windows.{lead}
-use Rattle.forward.specs.Counting.{Counting}
+use Rattle.count.specs.Counting.{Counting}
 use Rattle.forward.proofs.Progress.{Progress, progress-none, kept-length, Turn, whole, last-byte, first-byte, both-bytes, by-last, by-first, lead-bytes, lead-short, has-room, has-place, has-number, has-looks, turn-listed, turn-skipped}
-use Rattle.forward.proofs.Counting.{counting-more, counter-room, surplus-room, counting-less, counter-there, surplus-there, judged-right, judged-wrong, judged-unverified}
-use Rattle.forward.proofs.count_windows.Statement.{statement}
-use Rattle.forward.proofs.count_windows.Tie as tie
+use Rattle.count.proofs.Counting.{counting-more, counter-room, surplus-room, counting-less, counter-there, surplus-there, judged-right, judged-wrong, judged-unverified}
+use Rattle.count.proofs.count_windows.Statement.{statement}
+use Rattle.count.proofs.count_windows.Tie as tie
 
 -- What holds before the window at s
 record Running (P : List ℕ) (k : ℕ) (T : List ℕ) (stretch : Stretch) (before after counts : List ℕ) (surplus at looks s : ℕ) : Type 0 where

@@ -9,10 +9,10 @@ use Rattle.jumbled.specs.Steps.{countJudged}
 use Rattle.parikh.specs.Table.{parikh}
 use Rattle.listing.specs.declared.Stretch.{Stretch}
 use Rattle.listing.specs.Loops.{Fitting, Listed}
-use Rattle.forward.specs.declared.Sliding.{Sliding}
-use Rattle.forward.specs.declared.CountStart.{CountStart}
-use Rattle.forward.specs.declared.Counted.{Counted}
+use Rattle.count.specs.declared.Sliding.{Sliding}
+use Rattle.count.specs.declared.CountStart.{CountStart}
+use Rattle.count.specs.declared.Counted.{Counted}
 use Rattle.forward.specs.Windows.{lead}
 
 -- The counters and the surplus are those of the bytes U, for the pattern P
 pub record Counting (P U counts : List ℕ) (surplus : ℕ) : Type 0 where

@@ -4,8 +4,8 @@ use Prim.Native.Nat.{_-_}
 use lib.ListN.{length}
 use lib.Seq.{length-take-le}
 use borrow.Author.Needs.{needs}
-use Rattle.forward.proofs.hcam_start.Statement.{statement}
-use Rattle.forward.proofs.hcam_start.Tie as tie
+use Rattle.hcam.proofs.hcam_start.Statement.{statement}
+use Rattle.hcam.proofs.hcam_start.Tie as tie
 
 sub-last : tie.Need-sub-last
 sub-last c = search needs

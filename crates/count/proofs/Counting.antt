@@ -16,7 +16,7 @@ use Rattle.jumbled.proofs.Counts.{cc-cons, cc-append, cc-length, excess-nil, ex
 use Rattle.parikh.specs.Table.{parikh}
 use Rattle.parikh.proofs.Tables.{tabulate-ext, tabulate-set}
 use Rattle.parikh.proofs.Parikh.{getD-parikh, parikh-nil, parikh-snoc}
-use Rattle.forward.specs.Counting.{Counting}
+use Rattle.count.specs.Counting.{Counting}
 
 -- the order of bytes does not matter to their counts, nor to the excess
 cc-turned : (b : ℕ) (U : List ℕ) (c : ℕ) → cc (U ++ (b ∷ [])) c ≡ cc (b ∷ U) c
@@ -116,15 +116,3 @@ module _ {P W counts : List ℕ} {surplus : ℕ} (state : Counting P W counts su
 pub judged-unverified : (P : List ℕ) (k : ℕ) (W : List ℕ) → countJudged P k W .verification ≡ 0
 unfolding countJudged
 judged-unverified P k W = refl
-
--- ---- a candidate is verified: no byte is in the window more often than in the pattern
-
-pub matches-none-over : (P W : List ℕ) → ((c : ℕ) → c < 256 → cc W c ≤ cc P c) → matches P 0 W ≡ true
-unfolding matches excess
-matches-none-over P W h =
-    le-leb (excess P W) 0
-    (le-of-eq (sum-ext 256 (λ c. cc W c - cc P c) (λ c. 0) (λ c l. omega (arith, h c l)) ∙ sum-zeros 256 (λ c. 0) (λ c. refl)))
-
-pub matches-one-over : (P W : List ℕ) (c : ℕ) → c < 256 → cc P c < cc W c → matches P 0 W ≡ false
-unfolding matches
-matches-one-over P W c l h = lt-leb (excess P W) 0 (omega (arith, excess-at P W c l))

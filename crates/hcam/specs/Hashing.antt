@@ -11,9 +11,9 @@ use Rattle.heap.specs.declared.HeapTable.{HeapTable}
 use Rattle.heap.specs.Table.{HeapTabled}
 use Rattle.listing.specs.declared.Stretch.{Stretch}
 use Rattle.listing.specs.Loops.{Fitting, Listed}
-use Rattle.forward.specs.declared.HcamStart.{HcamStart}
-use Rattle.forward.specs.declared.Hashed.{Hashed}
+use Rattle.hcam.specs.declared.HcamStart.{HcamStart}
+use Rattle.hcam.specs.declared.Hashed.{Hashed}
 use Rattle.forward.specs.Windows.{lead}
 
 -- ---- the bytes before the first window's last
 

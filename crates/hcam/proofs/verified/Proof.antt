@@ -8,9 +8,9 @@ use lib.ListN.{getD}
 use Rattle.jumbled.specs.Match.{cc}
 use Rattle.parikh.specs.Table.{parikh}
 use Rattle.parikh.proofs.Parikh.{getD-parikh}
-use Rattle.forward.proofs.Counting.{matches-none-over, matches-one-over}
-use Rattle.forward.proofs.verified.Statement.{statement}
-use Rattle.forward.proofs.verified.Tie as tie
+use Rattle.hcam.proofs.Verifying.{matches-none-over, matches-one-over}
+use Rattle.hcam.proofs.verified.Statement.{statement}
+use Rattle.hcam.proofs.verified.Tie as tie
 
 abbrev Inv-loop : tie.InvT-loop
 Inv-loop window pattern-counts counts byte₀ byte = (byte ≤ 256) × ((b : ℕ) → b < byte → getD counts b 0 ≤ getD pattern-counts b 0)
