@@ -4,12 +4,12 @@ use Prim.Native.Nat.{_+_, _-_}
 use native.Mathlib.Omega.{arith}
 use lib.ListN.{length, getD}
 use Rattle.jumbled.specs.Steps.{bamScan}
 use Rattle.backward.proofs.Windows.{Going, going-first, going-same-length, going-end}
 use Rattle.backward.proofs.Reading.{scannedBy}
 use Rattle.backward.proofs.Scanning.{Given, Window, Inner, Taken, window-place, inner-first, inner-upto, single-group, single-taken, taken-word, tops-set, tops-clear, inner-on, inner-stop, inner-end}
 use Rattle.backward.proofs.Methods.{bamMethod, bam-given}
-use Rattle.backward.proofs.packed_backward.bam.Statement.{statement}
-use Rattle.backward.proofs.packed_backward.bam.Tie as tie
+use Rattle.bam.proofs.bam.Statement.{statement}
+use Rattle.bam.proofs.bam.Tie as tie
 
 abbrev Inv-loop : tie.InvT-loop
 Inv-loop pattern text stretch list tables m s₀ at looks₀ word₀ p₀ s looks word p =

@@ -1,8 +1,8 @@
 ghost use lib.ListN.{length};
 ghost use Rattle.jumbled.specs.Steps.{abamScan};
 ghost use Rattle.backward.specs.Searched.{Searchable, Searched};
-use crate::Reached;
-use crate::position;
+use backward::Reached;
+use backward::position;
 use listing::Stretch;
 use packed::Tables;
 

@@ -5,12 +5,12 @@ use Prim.Native.Nat.{_-_}
 use native.Mathlib.Omega.{arith}
 use lib.ListN.{length}
 use Rattle.jumbled.specs.Steps.{bam2Scan}
 use Rattle.backward.proofs.Windows.{Going, going-first, going-same-length, going-end}
 use Rattle.backward.proofs.Reading.{scannedBy}
 use Rattle.backward.proofs.Scanning.{Given, Window, Inner, Taken, window-place, inner-first, inner-upto, inner-word, first-added, pair-group, alone-group, single-taken, pair-taken, taken-word, tops-set, tops-clear, inner-on, inner-stop, inner-end}
 use Rattle.backward.proofs.Methods.{bam2Method, bam2-given}
-use Rattle.backward.proofs.pairs_backward.bam2.Statement.{statement}
-use Rattle.backward.proofs.pairs_backward.bam2.Tie as tie
+use Rattle.bam2.proofs.bam2.Statement.{statement}
+use Rattle.bam2.proofs.bam2.Tie as tie
 
 abbrev Inv-loop : tie.InvT-loop
 Inv-loop pattern text stretch list tables m s₀ at looks₀ word₀ p₀ s looks word p =

@@ -8,13 +8,13 @@ use lib.ListN.{length, getD}
 use borrow.Author.Tests.{lt-ltb, le-ltb}
 use Rattle.jumbled.specs.Fields.{abamLayout, errors as errorsOf}
 use Rattle.jumbled.specs.Steps.{abamScan}
 use Rattle.backward.proofs.Windows.{Going, going-first, going-same-length, going-end}
 use Rattle.backward.proofs.Reading.{scannedBy}
 use Rattle.backward.proofs.Scanning.{readFrom, Given, Window, Taken, window-place, inner-first, inner-upto, single-group, single-taken, taken-word, inner-on, inner-stop, inner-end}
 use Rattle.backward.proofs.Errors.{Counting, counting-few, error-first, error-found, error-none}
 use Rattle.backward.proofs.Methods.{abamMethod, abam-given}
-use Rattle.backward.proofs.approximate_backward.abam.Statement.{statement}
-use Rattle.backward.proofs.approximate_backward.abam.Tie as tie
+use Rattle.abam.proofs.abam.Statement.{statement}
+use Rattle.abam.proofs.abam.Tie as tie
 
 abbrev Inv-loop : tie.InvT-loop
 Inv-loop pattern k text stretch list tables m s₀ at looks₀ word₀ errors₀ p₀ s looks word errors p =
