@@ -1,5 +1,4 @@
--- The laws of the saved image: its numbers, what is read in any bytes, the way back, and how it is written.
+-- The laws of the saved image: its numbers, what is read in any bytes, and the way back.
 pub mod Numbers
 pub mod Contents
 pub mod Images
-pub mod Writing

@@ -11,7 +11,7 @@ use Rattle.jumbled.proofs.Admission.{given-append, pattern-numbered}
 use Rattle.listing.specs.Placed.{placed}
 use Rattle.image.specs.Image.{Parts}
 use Rattle.image.specs.Decode.{badForm, partsOf}
-use Rattle.image.specs.Writing.{Encoded}
+use Rattle.encode.specs.Writing.{Encoded}
 use Rattle.admit.specs.Numbers.{numberOf}
 use Rattle.admit.specs.declared.Refusal.{Refusal}
 use Rattle.admit.specs.declared.Refusal.the-variants.{Malformed, BufferTooShort}

@@ -83,7 +83,7 @@ fn stored_pattern(source: &[u8]) -> [u8; 64]
     ensures { λ r. ⌜ r ≡ padded 64 (now (source .entry)) ⌝ }
 {
     let mut bytes = [0u8; 64];
-    image::copy_in(source, &mut bytes, 0);
+    encode::copy_in(source, &mut bytes, 0);
     bytes
 }
 
@@ -95,12 +95,12 @@ fn next_tail(tail: &[u8], chunk: &[u8], keep: usize) -> [u8; 63]
     let mut bytes = [0u8; 63];
     if keep <= chunk.len() {
         let from = chunk.len() - keep;
-        image::copy_in(&chunk[from..], &mut bytes, 0);
+        encode::copy_in(&chunk[from..], &mut bytes, 0);
         return bytes;
     }
     let from = tail.len() + chunk.len() - keep;
-    let at = image::copy_in(&tail[from..], &mut bytes, 0);
-    image::copy_in(chunk, &mut bytes, at);
+    let at = encode::copy_in(&tail[from..], &mut bytes, 0);
+    encode::copy_in(chunk, &mut bytes, at);
     bytes
 }
 
@@ -296,13 +296,13 @@ impl Search {
         let len = self.pattern_len;
         let tail = self.tail;
         let tail_len = self.tail_len;
-        if buffer.len() < image::image_length(len, tail_len) {
+        if buffer.len() < encode::image_length(len, tail_len) {
             return Kept {
                 saving: Saving::Refused(Refusal::BufferTooShort),
                 search: self,
             };
         }
-        let written = image::encode(
+        let written = encode::encode(
             &pattern[..len],
             self.k,
             self.method,
@@ -353,18 +353,18 @@ impl Search {
     pub fn load(bytes: &[u8]) -> Held
         ensures { λ r. ⌜ Loads (now (bytes .entry)) r ⌝ }
     {
-        if !image::well_formed(bytes) {
+        if !decode::well_formed(bytes) {
             return Held {
                 admission: Admission::Refused(Refusal::Malformed),
                 search: Search::BLANK,
             };
         }
         Search::with_parts(
-            image::body(bytes, 1),
-            image::tolerance(bytes),
-            image::method(bytes),
-            image::total(bytes),
-            image::body(bytes, 4),
+            decode::body(bytes, 1),
+            decode::tolerance(bytes),
+            decode::method(bytes),
+            decode::total(bytes),
+            decode::body(bytes, 4),
         )
     }
 }

@@ -1,0 +1,124 @@
+-- Laws of what is written into the buffer.
+use mathlib.Core.Path.{_≡_, refl, sym, ap, ap₂, subst, _∙_}
+use mathlib.Core.Bool.{false}
+use mathlib.Core.List.{List, [], _∷_, _++_}
+use Prim.Native.Nat.{ℕ, _+_, _≤_, _<_}
+use native.Mathlib.Nat.{zero-add}
+use native.Mathlib.Numerals.{add-one}
+use native.Mathlib.Omega.{arith}
+use lib.ListN.{length, getD, take, drop, set, length-append, drop-of-length-le}
+use lib.Seq.{take-suc, drop-cons, length-take-le}
+use Rattle.listing.specs.Placed.{placed}
+use Rattle.listing.proofs.Placing.{placed-nil, length-placed, take-placed, placed-placed, placed-next}
+use Rattle.image.specs.Image.{Parts, partsWith, body, each, entries, image, IsOrder, saveOrder, Sized}
+use Rattle.image.specs.Decode.{badForm, partsOf}
+use Rattle.encode.specs.Writing.{Put, Encoded, numbersWith, bodyFrom}
+use Rattle.image.proofs.Images.{image-taken, parts-back, save-order}
+
+-- one byte more of the source
+pub placed-byte : (list : List ℕ) (at : ℕ) (source : List ℕ) (i : ℕ) → at + i < length list → i < length source
+    → set (placed list at (take i source)) (at + i) (getD source i 0) ≡ placed list at (take (i + 1) source)
+placed-byte list at source i room more =
+    let few : length (take i source) ≡ i = length-take-le i source (omega arith) in
+    ap (λ (n : ℕ). set (placed list at (take i source)) (at + n) (getD source i 0)) (sym few)
+    ∙ placed-next list at (take i source) (getD source i 0) (rw few room)
+    ∙ ap (placed list at) (sym (take-suc source i 0 more) ∙ ap (λ (n : ℕ). take n source) (sym (add-one i)))
+
+-- the bodies that the code writes are those of the parts
+pub body-written : (P : List ℕ) (k method n : ℕ) (tail : List ℕ) → bodyFrom P (numbersWith k method n) tail ≡ body (partsWith P k method n tail)
+unfolding bodyFrom body
+body-written P k method n tail = refl
+
+-- a buffer keeps its length,
+pub put-length : {bytes before after : List ℕ} {at next : ℕ} → Put bytes before after at next → at + length bytes ≤ length before
+    → length after ≡ length before
+put-length {bytes} {before} {after} {at} put room = ap length (put .filled) ∙ length-placed before at bytes room
+
+-- and what is put after other bytes stands with them
+pub put-put : {first second before between after : List ℕ} {at middle next : ℕ} → Put first before between at middle
+    → Put second between after middle next → at + length first ≤ length before → Put (first ++ second) before after at next
+put-put {first} {second} {before} {between} {after} {at} one two room =
+    record {
+      filled = two .filled
+          ∙ ap₂ (λ (l : List ℕ) (n : ℕ). placed l n second) (one .filled) (one .place-after)
+          ∙ placed-placed before at first room second;
+      place-after = omega (arith, one .place-after, two .place-after, length-append first second);
+    }
+
+-- the first byte, the entries and the bodies, put one after the other, are the image
+pub put-image : {f : ℕ → List ℕ} {parts : Parts} {before after-first after-entries after : List ℕ} {at start next : ℕ} → f ≡ body parts
+    → Put (4 ∷ []) before after-first 0 at → Put (entries f saveOrder) after-first after-entries at start
+    → Put (each f saveOrder) after-entries after start next → 1 ≤ length before → at + length (entries f saveOrder) ≤ length after-first
+    → Encoded parts before after next
+unfolding image
+put-image {f} {parts} {before} {after-first} {after-entries} {after} {at} {start} {next} same first second third room room-entries =
+    let whole : Put (4 ∷ (entries f saveOrder ++ each f saveOrder)) before after 0 next = put-put first (put-put second third room-entries) room in
+    let written = subst (λ (g : ℕ → List ℕ). Put (4 ∷ (entries g saveOrder ++ each g saveOrder)) before after 0 next) same whole in
+    record { filled = written .filled; length-given = written .place-after ∙ zero-add _ }
+
+-- the first bytes of a buffer that an image was put into are the image
+pub encoded-first : (parts : Parts) (before after : List ℕ) (len : ℕ) → Encoded parts before after len
+    → length (image saveOrder parts) ≤ length before → take len after ≡ image saveOrder parts
+encoded-first parts before after len encoded room =
+    let written = image saveOrder parts in
+    let all : len ≡ 0 + length written = omega (arith, encoded .length-given) in
+    ap₂ (λ (n : ℕ) (l : List ℕ). take n l) all (encoded .filled) ∙ take-placed before 0 written (omega arith)
+
+-- and what load finds in them is what was saved
+pub encoded-back : (parts : Parts) (before after : List ℕ) (len : ℕ) → Encoded parts before after len
+    → length (image saveOrder parts) ≤ length before → Sized parts → (badForm (take len after) ≡ false) × (partsOf (take len after) ≡ parts)
+encoded-back parts before after len encoded room sized =
+    let same = encoded-first parts before after len encoded room in
+    (ap badForm same ∙ image-taken save-order sized, ap partsOf same ∙ parts-back save-order sized)
+
+-- ---- a loop that writes what a function gives for each kind of an order
+
+-- What is still to be written after i kinds, at the place `at` of the buffer, makes up all of it, at `start` of the buffer as it came
+pub record Left (f : ℕ → List ℕ) (order before : List ℕ) (start i : ℕ) (buffer : List ℕ) (at : ℕ) : Type 0 where
+  pub all : at + length (each f (drop i order)) ≡ start + length (each f order)
+  pub kept : length buffer ≡ length before
+  pub rest : placed buffer at (each f (drop i order)) ≡ placed before start (each f order)
+
+pub left-first : {f : ℕ → List ℕ} {order before : List ℕ} {start : ℕ} → Left f order before start 0 before start
+left-first = record { all = refl; kept = refl; rest = refl }
+
+each-next : (f : ℕ → List ℕ) (order : List ℕ) (i : ℕ) → i < length order → each f (drop i order) ≡ f (getD order i 0) ++ each f (drop (i + 1) order)
+unfolding each
+each-next f order i more =
+    ap (each f) (drop-cons order i 0 more) ∙ ap (λ (n : ℕ). f (getD order i 0) ++ each f (drop n order)) (sym (add-one i))
+
+module _ {f : ℕ → List ℕ} {order before : List ℕ} {start i : ℕ} {buffer : List ℕ} {at : ℕ} (left : Left f order before start i buffer at)
+    (o : IsOrder order) where
+  module _ (more : i < 4) (room : start + length (each f order) ≤ length before) {bytes : List ℕ} (next-bytes : bytes ≡ f (getD order i 0)) where
+    next : each f (drop i order) ≡ bytes ++ each f (drop (i + 1) order)
+    next = each-next f order i (omega (arith, o .four)) ∙ ap (λ (l : List ℕ). l ++ each f (drop (i + 1) order)) (sym next-bytes)
+
+    lengths : length (each f (drop i order)) ≡ length bytes + length (each f (drop (i + 1) order))
+    lengths = ap length next ∙ length-append bytes (each f (drop (i + 1) order))
+
+    -- there is room for the next kind's bytes,
+    pub left-room : at + length bytes ≤ length buffer
+    left-room = omega (arith, left .all, left .kept, lengths)
+
+    -- and less is left once they are written
+    pub left-next : {after : List ℕ} {past : ℕ} → Put bytes buffer after at past → Left f order before start (i + 1) after past
+    left-next put =
+        record {
+          all = omega (arith, left .all, put .place-after, lengths);
+          kept = put-length put left-room ∙ left .kept;
+          rest = ap₂ (λ (l : List ℕ) (n : ℕ). placed l n (each f (drop (i + 1) order))) (put .filled) (put .place-after)
+              ∙ placed-placed buffer at bytes left-room (each f (drop (i + 1) order))
+              ∙ ap (placed buffer at) (sym next)
+              ∙ left .rest;
+        }
+
+  -- at the end all is written
+  pub left-last : 4 ≤ i → Put (each f order) before buffer start at
+  unfolding each
+  left-last most =
+      let end : length order ≤ i = omega (arith, o .four) in
+      let none : each f (drop i order) ≡ [] = ap (each f) (drop-of-length-le order end) in
+      record {
+        filled = sym (placed-nil buffer at) ∙ ap (placed buffer at) (sym none) ∙ left .rest;
+        place-after = omega (arith, left .all, ap length none);
+      }

@@ -1,0 +1,131 @@
+// Writes the saved form of a search into a lent buffer: document 01, "The saved image".
+
+ghost use mathlib.Core.Path.{_≡_};
+ghost use Prim.Native.Nat.{_+_, _≤_};
+ghost use lib.ListN.{length};
+ghost use Rattle.image.specs.Image.{partsWith, entry, each, entries, saveOrder};
+ghost use Rattle.encode.specs.Writing.{numbersWith, bodyFrom, Put, Encoded};
+use image::HEAD;
+
+// The order in which every save writes the entries and their bodies: stated here and in image/specs/, and nowhere else.
+const ORDER: [u8; 4] = [1, 2, 3, 4];
+
+// All of source, put into the buffer from a place on; the place after it is given.
+pub fn copy_in(source: &[u8], buffer: &mut [u8], at: usize) -> usize
+    requires { ⌜ at + length (now source) ≤ length (now buffer) ⌝ }
+    ensures { λ r. ⌜ Put (now (source .entry)) (now (buffer .entry)) (now (buffer .exit)) at r ⌝ }
+{
+    let mut i = 0;
+    while i < source.len() {
+        buffer[at + i] = source[i];
+        i += 1;
+    }
+    at + i
+}
+
+// k and method, one byte each, and the total n in four, low byte first.
+fn numbers_of(k: u8, method: u8, total: u32) -> [u8; 6]
+    ensures { λ r. ⌜ r ≡ numbersWith k method total ⌝ }
+{
+    [
+        k,
+        method,
+        (total % 256) as u8,
+        (total / 256 % 256) as u8,
+        (total / 256 / 256 % 256) as u8,
+        (total / 256 / 256 / 256 % 256) as u8,
+    ]
+}
+
+// The body to be saved under a kind; numbers are the six bytes that numbers_of gives.
+fn body_to_save<'a>(kind: u8, pattern: &'a [u8], numbers: &'a [u8], tail: &'a [u8]) -> &'a [u8]
+    requires { ⌜ length (now numbers) ≡ 6 ⌝ }
+    ensures { λ r. ⌜ now r ≡ bodyFrom (now (pattern .entry)) (now (numbers .entry)) (now (tail .entry)) kind ⌝ }
+{
+    match kind {
+        1 => pattern,
+        2 => &numbers[..2],
+        3 => &numbers[2..],
+        4 => tail,
+        _ => &numbers[..0],
+    }
+}
+
+// An entry, put into the buffer from a place on.
+fn put_entry(kind: u8, len: usize, buffer: &mut [u8], at: usize) -> usize
+    requires { ⌜ at + 3 ≤ length (now buffer) ⌝ }
+    ensures { λ r. ⌜ Put (entry kind len) (now (buffer .entry)) (now (buffer .exit)) at r ⌝ }
+{
+    let bytes = [kind, (len % 256) as u8, (len / 256 % 256) as u8];
+    copy_in(&bytes, buffer, at)
+}
+
+// The four entries, put in from a place on.
+fn put_entries<'a>(
+    pattern: &'a [u8],
+    numbers: &'a [u8],
+    tail: &'a [u8],
+    buffer: &mut [u8],
+    start: usize,
+) -> usize
+    requires { ⌜ (length (now numbers) ≡ 6) × (start + length (entries (bodyFrom (now pattern) (now numbers) (now tail)) saveOrder) ≤ length (now buffer)) ⌝ }
+    ensures { λ r. ⌜ Put (entries (bodyFrom (now (pattern .entry)) (now (numbers .entry)) (now (tail .entry))) saveOrder) (now (buffer .entry)) (now (buffer .exit)) start r ⌝ }
+{
+    let mut at = start;
+    let mut i = 0;
+    while i < 4 {
+        let kind = ORDER[i];
+        let len = body_to_save(kind, pattern, numbers, tail).len();
+        at = put_entry(kind, len, buffer, at);
+        i += 1;
+    }
+    at
+}
+
+// The four bodies, put in from a place on.
+fn put_bodies<'a>(
+    pattern: &'a [u8],
+    numbers: &'a [u8],
+    tail: &'a [u8],
+    buffer: &mut [u8],
+    start: usize,
+) -> usize
+    requires { ⌜ (length (now numbers) ≡ 6) × (start + length (each (bodyFrom (now pattern) (now numbers) (now tail)) saveOrder) ≤ length (now buffer)) ⌝ }
+    ensures { λ r. ⌜ Put (each (bodyFrom (now (pattern .entry)) (now (numbers .entry)) (now (tail .entry))) saveOrder) (now (buffer .entry)) (now (buffer .exit)) start r ⌝ }
+{
+    let mut at = start;
+    let mut i = 0;
+    while i < 4 {
+        let kind = ORDER[i];
+        at = copy_in(body_to_save(kind, pattern, numbers, tail), buffer, at);
+        i += 1;
+    }
+    at
+}
+
+// How long the image of a pattern and a tail of some lengths is: k, method and n take 6 bytes.
+pub fn image_length(pattern: usize, tail: usize) -> usize
+    requires { ⌜ (pattern ≤ 64) × (tail ≤ 64) ⌝ }
+    ensures { λ r. ⌜ r ≡ 13 + 6 + pattern + tail ⌝ }
+{
+    HEAD + 6 + pattern + tail
+}
+
+// The image of a search's parts, at the start of the buffer; its length is given.
+pub fn encode<'a>(
+    pattern: &'a [u8],
+    k: u8,
+    method: u8,
+    total: u32,
+    tail: &'a [u8],
+    buffer: &mut [u8],
+) -> usize
+    requires { ⌜ (length (now pattern) ≤ 64) × (length (now tail) ≤ 64) × (13 + 6 + length (now pattern) + length (now tail) ≤ length (now buffer)) ⌝ }
+    ensures { λ r. ⌜ Encoded (partsWith (now (pattern .entry)) k method total (now (tail .entry))) (now (buffer .entry)) (now (buffer .exit)) r ⌝ }
+{
+    let numbers = numbers_of(k, method, total);
+    let first = [4u8];
+    let at = copy_in(&first, buffer, 0);
+    let start = put_entries(pattern, &numbers, tail, buffer, at);
+    put_bodies(pattern, &numbers, tail, buffer, start)
+}
