@@ -1,0 +1,177 @@
+"""The stream of cases that the program in crates/vectors reads.
+
+Numbers are little-endian.  Cases follow one another to the end: a byte for the
+operation, its arguments, and its outcome of 17 bytes: u8 refusal number (0 if
+accepted), u32 a, u32 b, u64 digest.
+
+A text is one of
+    0, u16 length, the bytes
+    1, u32 length, u8 count, that many bytes: repeated up to the length
+    2, u32 length, u32 seed, u8 count, that many letters: byte i is
+       letters[x / 65536 % count], x being seed % 2^31 at first and
+       (x * 1103515245 + 12345) % 2^31 before each byte
+
+Operations, their arguments, a and b, and what the digest is of:
+     1 whole       text pattern, u8 k, u8 method, text, u32 places
+                   found, looks; the list
+     2 open        text pattern, u8 k, u8 method; the search
+     3 feed        text chunk, u32 places
+                   found, looks; the list, then the search
+     4 set method  u8 method; the search
+     5 save        u16 room; length, 0; the buffer, then the search
+     6 load        text image; the search
+     7 hand        the search is filled in: 64 bytes of pattern, u64 length,
+                   u8 k, u8 method, u32 total, 63 bytes of tail, u64 length;
+                   no outcome
+     8 report      text input; length of the output, 0; the output
+     9 width       text pattern, u8 k, u8 method; bits that the fields need, 0
+    10 exact       text pattern; 1 if a candidate of method 5 matches
+                   without being verified, else 0; 0
+The calls 2 to 6 work on one search, at first the blank one.  Place i of a list
+holds (i * 2654435761 + 12345) % 2^32 before the call, byte i of a buffer
+(i * 37 + 11) % 256.  A digest starts at 0 and takes in a byte as
+(h * 251 + byte + 1) % (2^56 - 5); a list goes in as 4 bytes a place, a search
+as the bytes that hand has.
+"""
+
+import functools
+import struct
+from collections import Counter
+
+import reference as ref
+
+WHOLE, OPEN, FEED, SET_METHOD, SAVE, LOAD, HAND, REPORT, WIDTH, EXACT = range(1, 11)
+
+# --- Texts --------------------------------------------------------------------
+
+
+class Text:
+    """Bytes, and the form in which the stream has them."""
+
+    def __init__(self, form, value):
+        self.form, self.value = form, value
+
+
+def literal(value):
+    return Text(struct.pack("<BH", 0, len(value)) + value, value)
+
+
+def repeated(length, unit):
+    form = struct.pack("<BIB", 1, length, len(unit)) + unit
+    return Text(form, (unit * (length // len(unit) + 1))[:length])
+
+
+def scattered(length, seed, letters):
+    made, x = bytearray(), seed % 2**31
+    for _ in range(length):
+        x = (x * 1103515245 + 12345) % 2**31
+        made.append(letters[x // 65536 % len(letters)])
+    form = struct.pack("<BIIB", 2, length, seed, len(letters)) + letters
+    return Text(form, bytes(made))
+
+
+def as_text(given):
+    return given if isinstance(given, Text) else literal(given)
+
+
+# --- Digests --------------------------------------------------------------------
+
+
+def digest(data):
+    h = 0
+    for byte in data:
+        h = (h * 251 + byte + 1) % 72057594037927931
+    return h
+
+
+def list_bytes(places):
+    return struct.pack("<%dI" % len(places), *places)
+
+
+def search_bytes(stored):
+    return struct.pack("<64sQBBI63sQ", *stored)
+
+
+def fresh_list(places):
+    return [(i * 2654435761 + 12345) % 2**32 for i in range(places)]
+
+
+def fresh_buffer(room):
+    return bytearray((i * 37 + 11) % 256 for i in range(room))
+
+
+# --- Writing --------------------------------------------------------------------
+
+
+class Stream:
+    """Cases, each with the outcome that the reference gives."""
+
+    def __init__(self):
+        self.data = bytearray()
+        self.search = ref.store(ref.BLANK)
+        self.cases = Counter()
+
+    def case(self, op, arguments, number, a=0, b=0, digested=b""):
+        self.data += bytes([op]) + arguments
+        self.data += struct.pack("<BIIQ", number, a, b, digest(digested))
+        self.cases[op, number] += 1
+        return number
+
+    def whole(self, pattern, k, method, text, places=None):
+        """As many places as bytes, unless it is said how many."""
+        pattern, text = as_text(pattern), as_text(text)
+        places = len(text.value) if places is None else places
+        filled = fresh_list(places)
+        number, found, looks = ref.whole_search(pattern.value, k, method, text.value, filled)
+        arguments = pattern.form + bytes([k, method]) + text.form + struct.pack("<I", places)
+        return self.case(WHOLE, arguments, number, found, looks, list_bytes(filled))
+
+    def open(self, pattern, k, method):
+        pattern = as_text(pattern)
+        number, self.search = ref.open_stored(pattern.value, k, method)
+        arguments = pattern.form + bytes([k, method])
+        return self.case(OPEN, arguments, number, digested=search_bytes(self.search))
+
+    def feed(self, chunk, places=None):
+        """As many places as bytes, unless it is said how many."""
+        chunk = as_text(chunk)
+        places = len(chunk.value) if places is None else places
+        filled = fresh_list(places)
+        number, found, looks, self.search = ref.feed_stored(self.search, chunk.value, filled)
+        digested = list_bytes(filled) + search_bytes(self.search)
+        arguments = chunk.form + struct.pack("<I", places)
+        return self.case(FEED, arguments, number, found, looks, digested)
+
+    def set_method(self, method):
+        number, self.search = ref.set_method_stored(self.search, method)
+        return self.case(SET_METHOD, bytes([method]), number, digested=search_bytes(self.search))
+
+    def save(self, room):
+        buffer = fresh_buffer(room)
+        number, length, self.search = ref.save_stored(self.search, buffer)
+        digested = bytes(buffer) + search_bytes(self.search)
+        return self.case(SAVE, struct.pack("<H", room), number, length, digested=digested)
+
+    def load(self, image):
+        image = as_text(image)
+        number, self.search = ref.load_stored(image.value)
+        return self.case(LOAD, image.form, number, digested=search_bytes(self.search))
+
+    def hand(self, stored):
+        self.search = stored
+        self.data += bytes([HAND]) + search_bytes(stored)
+
+    def report(self, given):
+        """The program always answers: its refusals are in what it prints."""
+        given = as_text(given)
+        output = ref.program_output(given.value)
+        return self.case(REPORT, given.form, 0, len(output), digested=output)
+
+    def width(self, pattern, k, method):
+        pattern = as_text(pattern)
+        bits = ref.bits_needed(pattern.value, k, method)
+        return self.case(WIDTH, pattern.form + bytes([k, method]), 0, bits)
+
+    def exact(self, pattern):
+        pattern = as_text(pattern)
+        return self.case(EXACT, pattern.form, 0, int(ref.heap_is_exact(pattern.value)))
