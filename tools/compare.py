@@ -495,8 +495,11 @@ class Coverage:
         method, k, pattern, text = parsed
         if key == "refused 5":
             self.bits.add((method, ref.bits_needed(pattern, k, method)))
-        if key != "accepted":
-            return
+        if key == "accepted":
+            self.searched(pattern, k, method, text)
+
+    def searched(self, pattern, k, method, text):
+        """An accepted search."""
         if method in (2, 3, 4):
             self.bits.add((method, ref.bits_needed(pattern, k, method)))
         count, matching = self.by_method.get(method, (0, 0))

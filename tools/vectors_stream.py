@@ -36,7 +36,6 @@ as the bytes that hand has.
 
 import functools
 import struct
-from collections import Counter
 
 import reference as ref
 
@@ -77,6 +76,7 @@ def as_text(given):
 # --- Digests --------------------------------------------------------------------
 
 
+@functools.lru_cache(maxsize=None)
 def digest(data):
     h = 0
     for byte in data:
@@ -92,8 +92,9 @@ def search_bytes(stored):
     return struct.pack("<64sQBBI63sQ", *stored)
 
 
-def fresh_list(places):
-    return [(i * 2654435761 + 12345) % 2**32 for i in range(places)]
+@functools.lru_cache(maxsize=None)
+def fresh_places(places):
+    return tuple((i * 2654435761 + 12345) % 2**32 for i in range(places))
 
 
 def fresh_buffer(room):
@@ -108,20 +109,20 @@ class Stream:
 
     def __init__(self):
         self.data = bytearray()
+        self.count = 0
         self.search = ref.store(ref.BLANK)
-        self.cases = Counter()
 
     def case(self, op, arguments, number, a=0, b=0, digested=b""):
         self.data += bytes([op]) + arguments
         self.data += struct.pack("<BIIQ", number, a, b, digest(digested))
-        self.cases[op, number] += 1
+        self.count += 1
         return number
 
     def whole(self, pattern, k, method, text, places=None):
         """As many places as bytes, unless it is said how many."""
         pattern, text = as_text(pattern), as_text(text)
         places = len(text.value) if places is None else places
-        filled = fresh_list(places)
+        filled = list(fresh_places(places))
         number, found, looks = ref.whole_search(pattern.value, k, method, text.value, filled)
         arguments = pattern.form + bytes([k, method]) + text.form + struct.pack("<I", places)
         return self.case(WHOLE, arguments, number, found, looks, list_bytes(filled))
@@ -136,8 +137,9 @@ class Stream:
         """As many places as bytes, unless it is said how many."""
         chunk = as_text(chunk)
         places = len(chunk.value) if places is None else places
-        filled = fresh_list(places)
+        filled = list(fresh_places(places))
         number, found, looks, self.search = ref.feed_stored(self.search, chunk.value, filled)
+        self.listed = filled[:found]
         digested = list_bytes(filled) + search_bytes(self.search)
         arguments = chunk.form + struct.pack("<I", places)
         return self.case(FEED, arguments, number, found, looks, digested)
@@ -175,3 +177,65 @@ class Stream:
     def exact(self, pattern):
         pattern = as_text(pattern)
         return self.case(EXACT, pattern.form, 0, int(ref.heap_is_exact(pattern.value)))
+
+
+# --- Reading --------------------------------------------------------------------
+
+# By the text at the top of this file; nothing here is shared with the writing.
+
+# A number's size, a text's greatest length, or the length of bytes as they are.
+ARGUMENTS = {
+    WHOLE: (("text", 300), ("number", 1), ("number", 1), ("text", 65537), ("number", 4)),
+    OPEN: (("text", 300), ("number", 1), ("number", 1)),
+    FEED: (("text", 65537), ("number", 4)),
+    SET_METHOD: (("number", 1),),
+    SAVE: (("number", 2),),
+    LOAD: (("text", 512),),
+    HAND: (
+        ("take", 64), ("number", 8), ("number", 1), ("number", 1), ("number", 4),
+        ("take", 63), ("number", 8),
+    ),
+    REPORT: (("text", 16385),),
+    WIDTH: (("text", 64), ("number", 1), ("number", 1)),
+    EXACT: (("text", 64),),
+}
+
+
+class Reader:
+    def __init__(self, data):
+        self.data, self.at = bytes(data), 0
+
+    def take(self, count):
+        if self.at + count > len(self.data):
+            raise ValueError("the stream ends within a case")
+        self.at += count
+        return self.data[self.at - count : self.at]
+
+    def number(self, size):
+        return sum(byte * 256**i for i, byte in enumerate(self.take(size)))
+
+    def text(self, longest):
+        form = self.number(1)
+        length = self.number(4 if form else 2)
+        if length > longest or form > 2:
+            raise ValueError("no such text, before byte %d" % self.at)
+        if form == 0:
+            return Text(b"", self.take(length))
+        x = self.number(4) % 2**31 if form == 2 else 0
+        letters = self.take(self.number(1))
+        made = []
+        for i in range(length):
+            x = (x * 1103515245 + 12345) % 2**31
+            made.append(letters[i % len(letters) if form == 1 else (x >> 16) % len(letters)])
+        return Text(b"", bytes(made))
+
+
+def read_cases(data):
+    """Gives each operation, its arguments and its outcome's bytes (hand: none)."""
+    reader = Reader(data)
+    while reader.at < len(data):
+        op = reader.number(1)
+        if op not in ARGUMENTS:
+            raise ValueError("operation %d before byte %d" % (op, reader.at))
+        arguments = [getattr(reader, kind)(size) for kind, size in ARGUMENTS[op]]
+        yield op, arguments, b"" if op == HAND else reader.take(17)

@@ -1,0 +1,759 @@
+"""The cases of the stored vectors: families of calls, each from its own numbers.
+
+A family gets the stream, to which it adds cases, and a source of numbers.
+"""
+
+import itertools
+
+import reference as ref
+import vectors_stream as vs
+from compare import METHODS, ORDERS, SHEET, letters, line, make_text, shuffled
+from vectors_stream import repeated, scattered
+
+# The edges of 1 to 5 and of a byte, and two others.
+NO_METHODS = (0, 6, 7, 200, 255)
+
+
+class Random:
+    """splitmix64, since Python's own may change from version to version."""
+
+    def __init__(self, name):
+        self.state = vs.digest(name.encode())
+
+    def next(self):
+        self.state = (self.state + 0x9E3779B97F4A7C15) % 2**64
+        z = self.state
+        z = (z ^ (z >> 30)) * 0xBF58476D1CE4E5B9 % 2**64
+        z = (z ^ (z >> 27)) * 0x94D049BB133111EB % 2**64
+        return z ^ (z >> 31)
+
+    def randrange(self, first, end=None):
+        if end is None:
+            first, end = 0, first
+        return first + self.next() % (end - first)
+
+    def choice(self, some):
+        return some[self.randrange(len(some))]
+
+    def shuffle(self, some):
+        for i in range(len(some) - 1, 0, -1):
+            j = self.randrange(i + 1)
+            some[i], some[j] = some[j], some[i]
+
+
+# --- Patterns and texts -------------------------------------------------------
+
+
+def some_letters(rng, count):
+    """That many different bytes, ascending."""
+    every = list(range(256))
+    rng.shuffle(every)
+    return bytes(sorted(every[:count]))
+
+
+def pattern_of(rng, m, q):
+    """m bytes, of q different letters if m has room for them."""
+    own = some_letters(rng, min(m, q))
+    return shuffled(rng, own + bytes(rng.choice(own) for _ in range(m - len(own))))
+
+
+def strangers(rng, pattern, count):
+    """Bytes that the pattern lacks."""
+    others = bytes(c for c in range(256) if c not in pattern)
+    return bytes(rng.choice(others) for _ in range(count))
+
+
+def with_errors(rng, pattern, errors):
+    """A mix of the pattern with an excess of exactly that many."""
+    kept = shuffled(rng, pattern)[errors:]
+    return shuffled(rng, kept + strangers(rng, pattern, errors))
+
+
+def allowed_methods(pattern, k):
+    return [method for method in METHODS if not ref.refuse_terms(pattern, k, method)]
+
+
+# --- Sheet, widths, exactness ---------------------------------------------------
+
+
+def blank_search(stream, rng):
+    """The search at first is the blank one: every call is refused with 1."""
+    for _ in range(8):
+        feed_set_and_save(stream, rng)
+
+
+def sheet_rows(stream, rng):
+    for pattern, k, text, _, _ in SHEET:
+        for method in METHODS + NO_METHODS[:2]:
+            stream.whole(pattern, k, method, text)
+        for method in allowed_methods(pattern, k):
+            for cut in range(len(text) + 1):
+                stream.open(pattern, k, method)
+                stream.feed(text[:cut])
+                stream.feed(text[cut:], len(text))
+
+
+def widths_at(stream, rng, pattern, k, method):
+    """The bits needed, and every call that refuses with 5 if they are over 64."""
+    stream.width(pattern, k, method)
+    stream.whole(pattern, k, method, with_errors(rng, pattern, k) + pattern[:1])
+    stream.open(pattern, k, method)
+    stream.open(pattern, k, 1)
+    stream.set_method(method)
+    stream.load(ref.image_of(ref.Search(pattern, k, method, 0, b""), rng.choice(ORDERS)))
+    stream.feed(pattern[:2])
+
+
+def widths_under_the_sheet(stream, rng):
+    for q, k, method in (
+        (30, 0, 2), (31, 0, 2), (32, 0, 2), (33, 0, 2), (30, 0, 3), (31, 0, 3), (32, 0, 3),
+        (14, 3, 4), (15, 3, 4), (16, 3, 4), (31, 0, 4), (32, 0, 4), (64, 0, 2), (64, 63, 4),
+    ):
+        widths_at(stream, rng, letters(q), k, method)
+    for q in range(65):
+        stream.width(repeated(q, letters(max(q, 1))), q % 7, 2 + q % 3)
+    for k in range(64):
+        stream.width(repeated(64, b"abcd" if k % 2 else b"abc"), k, 4)
+    for m in range(1, 65):
+        stream.width(repeated(m, b"a"), 0, 2 + m % 3)
+
+
+def widths_near_a_word(stream, rng):
+    """Made patterns whose fields need 62 to 67 bits."""
+    made = {}
+    while len(made) < 18 or min(made.values()) < 3:
+        method = rng.choice((2, 3, 4, 4, 4))
+        m = rng.randrange(12, 65)
+        k = rng.randrange(min(m, 20)) if method == 4 else 0
+        pattern = pattern_of(rng, m, rng.randrange(5, 34))
+        bits = ref.bits_needed(pattern, k, method)
+        if 62 <= bits <= 67 and made.get((method, bits), 0) < 3:
+            made[method, bits] = made.get((method, bits), 0) + 1
+            if made[method, bits] == 1:
+                widths_at(stream, rng, pattern, k, method)
+            else:
+                stream.width(pattern, k, method)
+                stream.open(pattern, k, method)
+
+
+def most_exact_letters(m):
+    q = 1
+    while q < m and (m + 1) ** (q + 1) <= 2**64:
+        q += 1
+    return q
+
+
+def exactness(stream, rng):
+    """Method 5 on both sides of (m + 1)^q = 2^64, for every m that has both."""
+    for m in range(1, 65):
+        q = most_exact_letters(m)
+        for count in (q, q + 1) if q < m else (q,):
+            pattern = pattern_of(rng, m, count)
+            stream.exact(pattern)
+            if m in (16, 31, 47, 63, 64):
+                stream.whole(pattern, 0, 5, pattern + pattern[:1])
+    for m in (1, 2, 31, 63, 64):
+        stream.exact(repeated(m, b"a"))
+        stream.exact(letters(m))
+
+
+# --- Whole searches ---------------------------------------------------------------
+
+
+def byte_values(stream, rng):
+    """Every byte value in a pattern and in a text, beside its neighbours."""
+    for c in range(256):
+        near = bytes([c, (c + 1) % 256, (c - 1) % 256, c, c ^ 128, c])
+        stream.whole(bytes([c]), 0, 1 + c % 5, near)
+        stream.whole(bytes([c, c ^ 128]), 0, 1 + (c // 5) % 5, near[2:])
+    for first in range(0, 256, 64):
+        pattern = bytes(range(first, first + 64))
+        for method in (1, 5, 2):
+            stream.whole(pattern, 0, method, repeated(200, pattern))
+        stream.whole(pattern, 60, 1, scattered(150, first, bytes(range(255))))
+
+
+def every_k(stream, rng):
+    """All k of several m, by counting and approximate backward: one searches
+    windows with about k errors, the other a text of few letters."""
+    for m in (1, 2, 3, 5, 8, 16, 31, 63, 64):
+        for k in range(m):
+            own = some_letters(rng, 4)
+            pattern = scattered(m, rng.randrange(2**32), own[: rng.randrange(1, 4)])
+            text = make_text(rng, pattern.value, k, rng.randrange(4))
+            for errors in (k, k + 1) if m < 31 else (k + rng.randrange(2),):
+                text += with_errors(rng, pattern.value, min(errors, m))
+            made = scattered(m + rng.randrange(60), rng.randrange(2**32), own)
+            for method in METHODS if k == 0 else (1, 4):
+                stream.whole(pattern, k, method, text if (method + k) % 4 < 2 or m < 9 else made)
+
+
+def every_length(stream, rng):
+    """Texts shorter than the pattern, of its length, one longer, and longer."""
+    for m in (1, 2, 3, 63, 64):
+        for n in sorted({0, 1, m - 1, m, m + 1, 2 * m + 1}):
+            for method in METHODS:
+                stream.whole(repeated(m, b"abc"), 0, method, repeated(n, b"abc"))
+                k = rng.randrange(m)
+                stream.whole(repeated(m, b"aab"), k, (1, 4)[method % 2], repeated(n, b"abcab"))
+
+
+def made_searches(stream, rng):
+    for _ in range(600):
+        m = rng.choice((rng.randrange(1, 5), rng.randrange(1, 10), rng.randrange(1, 20)))
+        pattern = pattern_of(rng, m, rng.randrange(1, 5))
+        k = rng.choice((0, rng.randrange(m), rng.randrange(min(m, 4))))
+        text = make_text(rng, pattern, k, rng.randrange(3 * m + 8))
+        method = rng.choice(allowed_methods(pattern, k))
+        stream.whole(pattern, k, method, text, len(text) + rng.choice((0, 0, 1, 5)))
+
+
+def long_texts(stream, rng):
+    for m, k, own in (
+        (1, 0, b"ab"), (2, 0, b"abc"), (3, 1, b"aab"), (5, 0, b"abb"), (7, 2, b"abcd"),
+        (8, 0, b"ab"), (12, 3, b"abc"), (31, 6, b"abc"), (63, 12, b"ab"), (64, 9, b"abcde"),
+    ):
+        pattern = repeated(m, own)
+        for method in METHODS:
+            n = rng.randrange(1000, 5000)
+            stream.whole(pattern, 0, method, repeated(n, pattern.value + own))
+            if method in allowed_methods(pattern.value, k):
+                made = scattered(n // (1 + m // 8), rng.randrange(2**32), own + b"x")
+                stream.whole(pattern, k, method, made)
+    for method in METHODS:
+        stream.whole(b"aab", 0, method, scattered(65536, method, b"abx"))
+
+
+def long_chunks(stream, rng):
+    """Long and short chunks by turns, the method changed between them."""
+    for m, method in itertools.product((2, 17, 64), METHODS):
+        own = some_letters(rng, 3)
+        pattern = repeated(m, own[:2])
+        stream.open(pattern, 0, method)
+        stream.feed(scattered(rng.randrange(200, 1200), rng.randrange(2**32), own[:2]))
+        stream.feed(repeated(rng.randrange(3), own))
+        stream.set_method(rng.choice(METHODS))
+        stream.feed(repeated(rng.randrange(200, 1200), pattern.value + own))
+        stream.save(512)
+
+
+# --- Method 5: sums that are equal modulo 2^64 --------------------------------------
+
+
+def heap_value(m, i):
+    return (m + 1) ** i % 2**64
+
+
+def repeats_to_zero(m, i):
+    """How many of c_i have a sum that is 0 modulo 2^64."""
+    repeats = 1
+    while repeats * heap_value(m, i) % 2**64:
+        repeats *= 2
+    return repeats
+
+
+def with_strangers(rng, pattern, letter, count):
+    """A mix of the pattern, that many of one of its letters replaced."""
+    part = bytearray(shuffled(rng, pattern))
+    for _ in range(count):
+        part[part.index(letter)] = strangers(rng, pattern, 1)[0]
+    return bytes(part)
+
+
+def colliding_text(rng, pattern, letter, repeats):
+    """Mixes, windows of equal sum that are none, and some that nearly are."""
+    other = rng.choice([c for c in pattern if c != letter])
+    equal = [with_strangers(rng, pattern, letter, repeats) for _ in range(2)]
+    nearly = [
+        with_strangers(rng, pattern, letter, repeats - 1) if repeats > 1
+        else with_strangers(rng, pattern, other, 1),
+        with_strangers(rng, equal[0], other, 1),
+    ]
+    parts = [shuffled(rng, pattern), equal[0], nearly[0], equal[1], nearly[1]]
+    return b"".join(parts) + equal[1][:9]
+
+
+def colliding_sums(stream, rng):
+    """c_i has the value 0, or enough of it have the sum 0: a byte that the
+    pattern lacks, which has the value 0 as well, can take their place."""
+    for m, i in (
+        (63, 10), (63, 11), (63, 12), (63, 20), (31, 12), (31, 13), (31, 14), (47, 15), (47, 16),
+        (23, 21), (23, 22), (39, 21), (39, 22), (55, 21), (55, 22), (59, 31), (59, 32),
+    ):
+        repeats = repeats_to_zero(m, i)
+        own = some_letters(rng, i + 1)
+        extra = rng.randrange(m - i - repeats + 1)
+        filler = bytes(rng.choice(own) for _ in range(m - i - repeats - extra))
+        pattern = own[:i] + own[i:] * (repeats + extra) + filler
+        assert len(pattern) == m and not ref.heap_is_exact(pattern)
+        text = colliding_text(rng, pattern, own[i], repeats)
+        stream.whole(pattern, 0, 5, text)
+        stream.open(pattern, 0, 5)
+        cuts = sorted(rng.randrange(2 * m) for _ in range(3))
+        for first, end in zip([0] + cuts, cuts):
+            stream.feed(text[first:end])
+        stream.set_method(1)
+        stream.feed(text[cuts[-1] : 2 * m + 9])
+
+
+# --- Refusals at their edges, and which comes first ---------------------------------
+
+
+def edges_of_terms(stream, rng):
+    """Numbers 1 to 5 of open, each at both sides and several at once."""
+    for m in (0, 1, 2, 3, 63, 64, 65, 66, 256, 257, 300):
+        for k in sorted({0, 1, max(m - 1, 0) % 256, m % 256, (m + 1) % 256, 255}):
+            for method in (0, 1, 2, 3, 4, 5, 6, 200, 255):
+                stream.open(repeated(m, b"ab"), k, method)
+    for q in (31, 32, 65):
+        for k in (0, 1, q, 255):
+            for method in METHODS + NO_METHODS[:1]:
+                stream.open(letters(q), k, method)
+
+
+# Texts and lists: enough places, too few, too long a text, and both.
+LIMITS = ((3, 3), (3, 2), (3, 0), (1, 0), (0, 0), (65537, 3))
+
+
+def edges_of_whole_search(stream, rng):
+    """Numbers 1 to 7 of a whole search: each set of terms with texts and
+    lists that would be refused too."""
+    for m, k in (
+        (0, 0), (0, 255), (1, 0), (2, 1), (2, 2), (64, 0), (64, 63), (64, 64), (65, 0), (65, 65),
+    ):
+        for method in METHODS:
+            n, places = rng.choice(LIMITS)
+            stream.whole(repeated(m, b"ab"), k, method, repeated(n, b"ab"), places)
+    for pattern, k, method in (
+        (b"", 0, 1), (b"", 0, 6), (repeated(65, b"a"), 0, 1), (letters(65), 0, 2),
+        (b"ab", 2, 1), (b"ab", 2, 2), (b"ab", 0, 0), (b"ab", 1, 6), (b"ab", 1, 2), (b"ab", 1, 3),
+        (b"ab", 1, 5), (letters(32), 0, 2), (letters(32), 1, 2), (letters(32), 32, 4),
+    ):
+        for n, places in LIMITS:
+            stream.whole(pattern, k, method, repeated(n, b"ab"), places)
+    for method in METHODS:
+        for n, places in ((65536, 65536), (65537, 0), (5, 4), (5, 5), (5, 6), (5, 0)):
+            stream.whole(b"ab", 0, method, repeated(n, b"abbx"), places)
+    for method, k in itertools.product(METHODS + NO_METHODS, (0, 1, 2, 255)):
+        stream.whole(b"ab", k, method, b"bab")
+    for n, places in ((65536, 65535), (65537, 65536), (65537, 65537)):
+        stream.whole(b"ab", 0, 2, repeated(n, b"abbx"), places)
+
+
+def edges_of_feed(stream, rng):
+    """Numbers 6, 7 and 8, alone and together, on a search that is sound."""
+    for method in METHODS:
+        stream.open(b"ab", 0, method)
+        for n, places in LIMITS + ((65536, 65536), (3, 4), (1, 1)):
+            stream.feed(repeated(n, b"abx"), places)
+    for n, places in ((65536, 65535), (65537, 65536), (65537, 65537)):
+        stream.feed(repeated(n, b"abx"), places)
+    for m, size in itertools.product((1, 2, 3, 64), (0, 1, 2, 5, 64)):
+        feeds_at_the_largest_total(stream, rng, m, size)
+    feeds_at_the_largest_total(stream, rng, 3, 65535)
+
+
+def feeds_at_the_largest_total(stream, rng, m, size):
+    """A search that has room for that many bytes more."""
+    pattern = b"a" * (m - 1) + b"b"
+    method = rng.choice(METHODS)
+    search = ref.Search(pattern, 0, method, ref.LARGEST_TOTAL - size, pattern[1:])
+    stream.load(ref.image_of(search))
+    too_many = size + 1
+    for n, places in (
+        (too_many, too_many), (too_many, size), (65537, 9), (size, size), (0, 0), (1, 1),
+    ):
+        stream.feed(repeated(n, pattern), places)
+
+
+def edges_of_set_method(stream, rng):
+    """Numbers 3, 4 and 5 of the new method, on a search that is sound."""
+    for pattern, k in ((b"a", 0), (b"ab", 0), (b"ab", 1), (letters(31), 0), (letters(32), 0),
+                       (letters(32), 1), (letters(15), 3), (letters(16), 3), (letters(64), 63)):
+        stream.open(pattern, k, 1)
+        for method in METHODS + NO_METHODS:
+            stream.set_method(method)
+        stream.feed(repeated(9, pattern))
+
+
+def edges_of_save(stream, rng):
+    """Number 10 at its edge."""
+    for m in (1, 2, 3, 40, 64):
+        stream.open(repeated(m, b"abc"), 0, rng.choice(METHODS))
+        for size in (0, 1, m):
+            stream.feed(repeated(size, b"cab"))
+            needed = len(ref.image_of(ref.contents(stream.search)))
+            for room in (0, 1, 13, needed - 1, needed, needed + 1, 512):
+                stream.save(room)
+
+
+# --- Searches filled in by hand -------------------------------------------------------
+
+
+def handed(rng, pattern, k, method, n, tail, pattern_len=None, tail_len=None):
+    """A stored search with other bytes than 0 past its lengths."""
+    def filled(some, size):
+        return some + bytes(rng.randrange(1, 256) for _ in range(size - len(some)))
+
+    return ref.Stored(
+        filled(pattern, 64),
+        len(pattern) if pattern_len is None else pattern_len,
+        k,
+        method,
+        n,
+        filled(tail, 63),
+        len(tail) if tail_len is None else tail_len,
+    )
+
+
+def feed_set_and_save(stream, rng):
+    """The three calls in any order, also as they would be refused anyway."""
+    chunk, places = rng.choice(((b"", 0), (b"ab", 2), (b"ab", 1), (repeated(65537, b"ab"), 3)))
+    calls = [
+        lambda: stream.feed(chunk, places),
+        lambda: stream.set_method(rng.choice(METHODS + NO_METHODS)),
+        lambda: stream.save(rng.choice((512, 512, 20, 0))),
+    ]
+    rng.shuffle(calls)
+    for call in calls:
+        call()
+
+
+def searches_with_a_fault(stream, rng):
+    sound = dict(pattern=b"abcab", k=1, method=4, n=9, tail=b"bcab")
+    faults = [dict(pattern_len=m) for m in (0, 65, 66, 128, 256 + 5, 2**32 + 5, 2**63, 2**64 - 1)]
+    faults += [dict(k=k) for k in (4, 5, 6, 255)]
+    faults += [dict(method=method) for method in NO_METHODS + (2, 3, 5)]
+    faults += [dict(tail_len=t) for t in (0, 3, 5, 63, 64, 256 + 4, 2**32 + 4, 2**64 - 1)]
+    faults += [dict(n=n) for n in (0, 1, 3, 4, 5)]
+    for n, tail_len in ((0, 0), (0, 1), (1, 0), (1, 1), (1, 2), (3, 2), (3, 3), (3, 4)):
+        faults.append(dict(n=n, tail=b"abc"[:n], tail_len=tail_len))
+    for q, k, method in ((31, 0, 2), (32, 0, 2), (31, 0, 3), (32, 0, 3), (15, 3, 4), (16, 3, 4)):
+        faults.append(dict(pattern=letters(q), k=k, method=method, tail=letters(q)[1:], n=q - 1))
+    for fault in faults:
+        stream.hand(handed(rng, **dict(sound, **fault)))
+        feed_set_and_save(stream, rng)
+        feed_set_and_save(stream, rng)
+
+
+def searches_with_faults(stream, rng):
+    """Several faults of a search at once, and calls that a sound one would
+    refuse too (its total leaves no room): the first number is given."""
+    narrow = itertools.product((b"abcab",), (0, 1, 5), (1, 2, 4, 6))
+    wide = itertools.product((letters(32),), (0, 1), (1, 2, 4, 6))
+    lengths = ((None, None), (None, 63), (0, None), (65, 63))
+    for pattern, k, method in itertools.chain(narrow, wide, [(letters(32), 32, 4)]):
+        for pattern_len, tail_len in lengths:
+            terms = pattern, k, method, ref.LARGEST_TOTAL
+            stream.hand(handed(rng, *terms, pattern[1:], pattern_len, tail_len))
+            stream.feed(b"ab", rng.randrange(3))
+            stream.feed(repeated(65537, b"ab"), 3)
+            stream.save(rng.choice((0, 19, 20)))
+            for new in (rng.choice(NO_METHODS), 2, 4):
+                stream.set_method(new)
+
+
+def sound_searches(stream, rng):
+    """Stored bytes past the lengths do nothing; only a feed writes them 0."""
+    for m in (1, 2, 3, 17, 63, 64):
+        for n in sorted({0, 1, max(m - 2, 0), m - 1, m, 1000, ref.LARGEST_TOTAL - 3}):
+            pattern = pattern_of(rng, m, rng.randrange(1, 5))
+            k = rng.choice((0, rng.randrange(m)))
+            tail = make_text(rng, pattern, k, min(n, m - 1))
+            stream.hand(handed(rng, pattern, k, rng.choice(allowed_methods(pattern, k)), n, tail))
+            needed = 19 + m + len(tail)
+            stream.save(needed + rng.choice((-1, 0, 1)))
+            stream.set_method(rng.choice(METHODS + NO_METHODS))
+            stream.save(512)
+            stream.feed(with_errors(rng, pattern, k)[:3], rng.choice((1, 3, 3)))
+            stream.save(512)
+            stream.feed(make_text(rng, pattern, k, rng.randrange(9)))
+
+
+# --- Images ---------------------------------------------------------------------------
+
+IMAGES = (
+    ref.Search(b"ab", 0, 2, 0, b""),
+    ref.Search(b"abca", 1, 4, 9, b"bca"),
+    ref.Search(b"a", 0, 5, 4294967295, b""),
+)
+
+
+def image_orders(stream, rng):
+    """All 24 orders, and that what was loaded goes on as it should."""
+    wide = pattern_of(rng, 64, 3)
+    searches = IMAGES + (
+        ref.Search(b"\x04\x01\x02", 2, 1, 1, b"\x03"),
+        ref.Search(wide, 0, 3, 70, shuffled(rng, wide)[1:]),
+    )
+    for order in ORDERS:
+        for search in searches[: 5 if order[0] == 3 else 4]:
+            stream.load(ref.image_of(search, order))
+        stream.save(512)
+        stream.feed(b"\x01\x04\x02ab")
+
+
+def changed_images(stream, rng):
+    """Each byte changed, and every truncation."""
+    orders = (1, 2, 3, 4), (3, 1, 4, 2), (2, 4, 3, 1), (4, 3, 2, 1)
+    for search, order in zip(IMAGES + IMAGES[1:2], orders):
+        image = ref.image_of(search, order)
+        for end in range(len(image)):
+            stream.load(image[:end])
+        stream.load(image + b"\0")
+        for at, byte in enumerate(image):
+            for other in sorted({0, byte ^ 1, (byte + 1) % 256, 5, 255} - {byte}):
+                stream.load(image[:at] + bytes([other]) + image[at + 1 :])
+        stream.save(99)
+
+
+def image_with(order, bodies, lengths=()):
+    """An image with any bodies, and lengths that need not be theirs."""
+    said = {kind: len(body) for kind, body in bodies.items()}
+    said.update(lengths)
+    image = bytes([4])
+    for kind in order:
+        image += bytes([kind]) + said[kind].to_bytes(2, "little")
+    return image + b"".join(bodies[kind] for kind in order)
+
+
+def malformed_images(stream, rng):
+    """Number 9 for the form, also with terms or a tail that are wrong too."""
+    sound = {1: b"ab", 2: b"\0\2", 3: b"\5\0\0\0", 4: b"a"}
+    for bodies in (sound, {**sound, 2: b"\7\7"}, {**sound, 4: b"abc"}):
+        order = rng.choice(ORDERS)
+        image = image_with(order, bodies)
+        for first in (0, 3, 4, 5, 255):
+            stream.load(bytes([first]) + image[1:])
+        for at in (1, 4, 7, 10):
+            for kind in (0, 1, 2, 3, 4, 5, 255):
+                stream.load(image[:at] + bytes([kind]) + image[at + 1 :])
+        for kind in (1, 2, 3, 4):
+            for length in (0, 1, 2, 3, 4, 5, 256, 258, 65535):
+                body = (bodies[kind] + bytes(9))[: min(length, 9)]
+                stream.load(image_with(order, {**bodies, kind: body}, {kind: length}))
+        stream.load(image[:-1])
+        stream.load(image + b"\0")
+        # Lengths whose sum has the right low 16 bits, or the right low bytes.
+        both = len(bodies[1]) + len(bodies[4])
+        for first in (65535, 32769):
+            stream.load(image_with(order, bodies, {1: first, 4: 65536 + both - first}))
+        stream.load(image_with(order, bodies, {4: 256 + len(bodies[4])}))
+    # Lengths exchanged between the entries.
+    stream.load(image_with((1, 2, 3, 4), sound, {1: 1, 4: 2}))
+    stream.load(image_with((1, 2, 3, 4), sound, {2: 4, 3: 2}))
+
+
+def refused_contents(stream, rng):
+    """Numbers 1 to 5 and the tail's 9 in an image of the right form."""
+    pattern, tail = b"ab" * 100, b"ba" * 100
+    lengths = 0, 1, 2, 64, 65, 66, 200
+    methods = 0, 1, 2, 4, 5, 6, 200
+    for m, k, method in itertools.product(lengths, (0, 1, 2, 255), methods):
+        n = rng.choice((0, 1, 2, 100, 65536, ref.LARGEST_TOTAL))
+        kept = max(0, min(n, m - 1) + rng.choice((0, 0, 0, 1, -1)))
+        if m < 9 or rng.randrange(6) == 0:
+            search = ref.Search(pattern[:m], k, method, n, tail[:kept])
+            stream.load(ref.image_of(search, rng.choice(ORDERS)))
+    for q, k, method in (
+        (31, 0, 2), (32, 0, 2), (32, 1, 2), (65, 0, 2), (32, 32, 4), (15, 3, 4), (16, 3, 4),
+    ):
+        for tail in (b"", b"A"):
+            stream.load(ref.image_of(ref.Search(letters(q), k, method, 0, tail)))
+    for m, k in itertools.product((63, 64, 65), (0, 62, 63, 64)):
+        stream.load(ref.image_of(ref.Search(pattern[:m], k, 1, 0, b"")))
+
+
+# --- Series of calls --------------------------------------------------------------------
+
+
+class Series:
+    """One search fed with parts of a text, saved, loaded and changed.  Where
+    all of the text so far is known, a feed's list is tested against it."""
+
+    def __init__(self, stream, rng):
+        self.stream, self.rng = stream, rng
+        m = rng.choice((1, 2, 2, 3, 3, 4, 5, 6, 8, 12, 16, 31, 63, 64))
+        q = rng.choice((1, 2, 3, 4, 6, 12 if m > 30 else 2))
+        self.pattern = pattern_of(rng, m, q)
+        self.k = rng.choice((0, 0, rng.randrange(m)))
+        self.allowed = allowed_methods(self.pattern, self.k)
+        self.plan = make_text(rng, self.pattern, self.k, 6 * m + 60)
+        self.kept = []
+        self.open()
+
+    def open(self):
+        self.stream.open(self.pattern, self.k, self.rng.choice(self.allowed))
+        self.at, self.text = 0, b""
+
+    def feed(self):
+        rng, m = self.rng, len(self.pattern)
+        size = rng.choice((0, 1, 1, 2, 3, rng.randrange(9), rng.randrange(20), m - 1, m, m + 1))
+        chunk = self.plan[self.at : self.at + size]
+        self.at += len(chunk)
+        if rng.randrange(8) == 0:
+            chunk = make_text(rng, self.pattern, self.k, rng.randrange(6))
+        number = self.stream.feed(chunk, len(chunk) + rng.choice((0, 0, 0, 1, 4)))
+        if self.text is None or number:
+            return
+        joined = self.text + chunk
+        every = ref.listed_positions(self.pattern, self.k, joined)
+        assert self.stream.listed == [s for s in every if s + m > len(self.text)]
+        self.text = joined
+
+    def feed_refused(self):
+        size = self.rng.randrange(1, 6)
+        chunk = self.plan[self.at : self.at + size] or self.pattern[:1]
+        self.stream.feed(chunk, self.rng.choice((0, len(chunk) - 1)))
+
+    def set_method(self):
+        self.stream.set_method(self.rng.choice(METHODS + tuple(self.allowed) * 2 + NO_METHODS))
+
+    def save(self):
+        search = ref.contents(self.stream.search)
+        image = ref.image_of(search)
+        room = len(image) + self.rng.choice((-1, 0, 0, 0, 1, 7))
+        if self.stream.save(room) == 0:
+            self.kept.append((image, search, self.at, self.text))
+
+    def load(self):
+        """A saved image as it was written, or in another order of its entries."""
+        if not self.kept:
+            return self.save()
+        image, search, self.at, self.text = self.rng.choice(self.kept)
+        if self.rng.randrange(3) == 0:
+            image = ref.image_of(search, self.rng.choice(ORDERS))
+        self.stream.load(image)
+
+    def load_damaged(self):
+        """A changed image may be accepted: then the text so far isn't known."""
+        image = bytearray(self.rng.choice(self.kept)[0] if self.kept else b"\4\1\2")
+        if self.rng.randrange(3):
+            image[self.rng.randrange(len(image))] ^= 1 << self.rng.randrange(8)
+        else:
+            del image[self.rng.randrange(len(image)) :]
+        self.text = None
+        if self.stream.load(bytes(image)):
+            self.go_on_from_blank()
+
+    def open_refused(self):
+        m, rng = len(self.pattern), self.rng
+        k, method = rng.choice(((m, 1), (255, 6), (0, 0), (0, 6), (m, 4)))
+        self.stream.open(self.pattern, k, method)
+        self.go_on_from_blank()
+
+    def go_on_from_blank(self):
+        for call in (self.feed_blank, self.set_method, self.save_blank):
+            if self.rng.randrange(2):
+                call()
+        (self.load if self.kept else self.open)()
+
+    def feed_blank(self):
+        self.stream.feed(self.pattern[:2], 2)
+
+    def save_blank(self):
+        self.stream.save(self.rng.choice((0, 19, 512)))
+
+    def run(self, calls):
+        usual = [self.feed] * 12 + [self.save] * 3 + [self.set_method] * 4 + [self.load] * 2
+        for _ in range(calls):
+            self.rng.choice(usual + [self.feed_refused, self.load_damaged, self.open_refused])()
+
+
+def series_of_calls(stream, rng):
+    for _ in range(95):
+        Series(stream, rng).run(rng.randrange(8, 36))
+
+
+# --- The program's input ------------------------------------------------------------------
+
+
+def first_lines(stream, rng):
+    """The line's form: each of its first bytes changed, left out or doubled."""
+    sound, rest = b"2 0 abc", b"\nabcxxxabc\n"
+    stream.report(sound + rest)
+    for at in range(5):
+        stream.report(sound[:at] + sound[at + 1 :] + rest)
+        for c in b" 019:/\n\t\r\0-+a\xb2":
+            stream.report(sound[:at] + bytes([c]) + sound[at + 1 :] + rest)
+            stream.report(sound[:at] + bytes([c]) + sound[at:] + rest)
+    for end in range(len(sound) + 1):
+        stream.report(sound[:end])
+        stream.report(sound[:end] + b"\n")
+    for k in (
+        b"", b"0", b"00", b"000", b"01", b"09", b"010", b"1", b"2", b"3", b"10", b"99", b"100", b"-1",
+    ):
+        for method in b"0123456789":
+            stream.report(bytes([method]) + b" " + k + b" abc\nabcab")
+
+
+def patterns_and_records(stream, rng):
+    """Blanks and other bytes in the pattern, its length, last newlines."""
+    for pattern in (
+        b"", b" ", b"  ", b" a", b"a ", b"a b", b"\r", b"ab\r", b"\t", b"\0", b"\xff\xfe", b"-",
+    ):
+        for end in (b"", b"\n", b"\n\n", b"\r\n", b"\n \n"):
+            record = pattern + b"a" + pattern + end
+            stream.report(line(rng.choice(METHODS), 0, pattern) + record)
+    for m, method in itertools.product((1, 10, 11, 63, 64, 65), (1, 2, 4, 6)):
+        for k in sorted({0, m - 1, m}):
+            first = line(method, k, b"a" * m)
+            stream.report(repeated(len(first) + m + 1, first + b"a" * m))
+    for q, k, method in (
+        (31, 0, 2), (32, 0, 2), (31, 0, 3), (32, 0, 3), (15, 3, 4), (16, 3, 4), (32, 1, 2),
+    ):
+        stream.report(line(method, k, letters(q)) + letters(q) + b"\n")
+    for (pattern, k, text, _, _), method in itertools.product(SHEET, METHODS):
+        stream.report(line(method, k, pattern) + text + rng.choice((b"", b"\n")))
+
+
+def input_lengths(stream, rng):
+    """16,384 bytes and one more: 6 comes before 11, and before 1 to 5."""
+    for size in (16383, 16384, 16385):
+        for unit in (
+            b"1 0 a\na", b"2 0 ab\nabbax", b"3 0 aab\nabaxx", b"4 1 abcd\nabxdcbad\n",
+            b"5 0 abc\ncabx", b"1 0 \n", b"1 2 ab\nab", b"7 0 ab\nab", b"2 1 ab\nab", b"abc",
+            b"\n", b"1 00 a\n", b"1 0 a\n",
+        ):
+            stream.report(repeated(size, unit))
+        stream.report(scattered(size, rng.randrange(2**32), b"1 0 a\n"))
+    for _ in range(30):
+        pattern = bytes(rng.choice(b"ab c") for _ in range(rng.randrange(1, 9)))
+        k = rng.randrange(len(pattern)) if rng.randrange(2) else 0
+        first = line(rng.choice(allowed_methods(pattern, k)), k, pattern)
+        record = bytes(rng.choice(b"ab c\nx") for _ in range(rng.randrange(120)))
+        stream.report(repeated(rng.randrange(200, 3000), first + record))
+
+
+# --- All of them ----------------------------------------------------------------------------
+
+FAMILIES = (
+    blank_search,
+    sheet_rows,
+    widths_under_the_sheet,
+    widths_near_a_word,
+    exactness,
+    byte_values,
+    every_k,
+    every_length,
+    made_searches,
+    long_texts,
+    long_chunks,
+    colliding_sums,
+    edges_of_terms,
+    edges_of_whole_search,
+    edges_of_feed,
+    edges_of_set_method,
+    edges_of_save,
+    searches_with_a_fault,
+    searches_with_faults,
+    sound_searches,
+    image_orders,
+    changed_images,
+    malformed_images,
+    refused_contents,
+    series_of_calls,
+    first_lines,
+    patterns_and_records,
+    input_lengths,
+)

@@ -1,0 +1,157 @@
+"""What a stream of cases reaches, taken from the stream as it is read back."""
+
+from collections import Counter
+
+import reference as ref
+from compare import METHODS, Coverage
+from vectors_stream import (
+    EXACT, FEED, HAND, LOAD, OPEN, REPORT, SAVE, SET_METHOD, WHOLE, WIDTH,
+)
+
+NAMES = {
+    WHOLE: "whole search", OPEN: "open", FEED: "feed", SET_METHOD: "set method", SAVE: "save",
+    LOAD: "load", REPORT: "report", WIDTH: "width", EXACT: "exact",
+}
+
+# Document 01, "When a call says no": the numbers of each call.
+NUMBERS = {
+    WHOLE: range(8), OPEN: range(6), FEED: range(10), SET_METHOD: (0, 1, 2, 3, 4, 5, 9),
+    SAVE: (0, 1, 2, 3, 4, 5, 9, 10), LOAD: (0, 1, 2, 3, 4, 5, 9),
+}
+
+# --- The tests of each call, in their order ------------------------------------
+
+
+def method_tests(pattern, k, method):
+    wide = method in (2, 3, 4) and ref.bits_needed(pattern, k, method) > 64
+    return [(3, method not in METHODS), (4, k > 0 and method in (2, 3, 5)), (5, wide)]
+
+
+def terms_tests(pattern, k, method):
+    m = len(pattern)
+    return [(1, m == 0 or m > 64), (2, k >= m)] + method_tests(pattern, k, method)
+
+
+def search_tests(search):
+    tail = min(search.n, len(search.pattern) - 1)
+    return terms_tests(search.pattern, search.k, search.method) + [(9, len(search.tail) != tail)]
+
+
+def tests_of(op, arguments, search):
+    """Each number with whether its condition holds, whatever comes before it."""
+    if op == OPEN:
+        return terms_tests(*arguments)
+    if op == WHOLE:
+        text, places = arguments[3:]
+        return terms_tests(*arguments[:3]) + [(6, len(text) > 65536), (7, places < len(text))]
+    if op == FEED:
+        chunk, places = arguments
+        limits = [(6, len(chunk) > 65536), (7, places < len(chunk))]
+        return search_tests(search) + limits + [(8, search.n + len(chunk) > 4294967295)]
+    if op == SET_METHOD:
+        return search_tests(search) + method_tests(search.pattern, search.k, *arguments)
+    if op == SAVE:
+        needed = 19 + len(search.pattern) + len(search.tail)
+        return search_tests(search) + [(10, arguments[0] < needed)]
+    if op == LOAD:
+        loaded = ref.parts_of(*arguments)
+        return search_tests(loaded) if loaded else [(9, True)]
+    return []
+
+
+def possible_pairs(op):
+    """Places in the order of tests of two that can hold at once.  A method
+    that is none has no condition of number 4 or 5."""
+    numbers = [number for number, _ in tests_of(op, *EXAMPLES[op])]
+    for j in range(len(numbers)):
+        for i in range(j):
+            of_one_method = numbers[i] == 3 and j - i in (1, 2) and numbers[j] in (4, 5)
+            if not of_one_method:
+                yield i, j
+
+
+EXAMPLES = {
+    OPEN: ((b"a", 0, 1), ref.BLANK),
+    WHOLE: ((b"a", 0, 1, b"", 0), ref.BLANK),
+    FEED: ((b"", 0), ref.BLANK),
+    SET_METHOD: ((1,), ref.BLANK),
+    SAVE: ((0,), ref.BLANK),
+    LOAD: ((ref.image_of(ref.BLANK),), ref.BLANK),
+}
+
+# --- Coverage ------------------------------------------------------------------
+
+
+class VectorCoverage(Coverage):
+    def __init__(self):
+        super().__init__()
+        self.cases = Counter()
+        self.hands = 0
+        self.pairs = Counter()
+
+    def case(self, op, arguments, number, before):
+        """A case, and the stored search before it."""
+        if op == HAND:
+            self.hands += 1
+            return
+        self.cases[op, number] += 1
+        search = ref.contents(before)
+        self.order(op, tests_of(op, arguments, search), number)
+        if op == REPORT:
+            self.add(arguments[0], ref.program_output(arguments[0]))
+        elif op == WIDTH:
+            self.bits.add((arguments[2], ref.bits_needed(*arguments)))
+        elif op == WHOLE and not number:
+            self.searched(*arguments[:4])
+        elif op == FEED and not number:
+            self.searched(search.pattern, search.k, search.method, search.tail + arguments[0])
+
+    def order(self, op, tests, number):
+        """The first test that holds gives the number; others may hold too."""
+        holding = [at for at, (_, holds) in enumerate(tests) if holds]
+        if tests:
+            assert number == (tests[holding[0]][0] if holding else 0), (op, tests, number)
+        for at in holding[1:]:
+            self.pairs[op, holding[0], at] += 1
+
+    def report(self):
+        for op, name in NAMES.items():
+            numbers = sorted(number for at, number in self.cases if at == op)
+            each = ["%d: %d" % (number, self.cases[op, number]) for number in numbers]
+            total = sum(self.cases[op, number] for number in numbers)
+            print("  %s, %d cases by number: %s" % (name, total, ", ".join(each)))
+        print("  searches filled in by hand: %d" % self.hands)
+        print(
+            "  tests that hold at once: %d pairs, %d times"
+            % (len(self.pairs), sum(self.pairs.values()))
+        )
+        print("  the program's answers, and then the accepted searches of all kinds:")
+        super().report()
+
+    def gaps(self):
+        missing = []
+        for op, numbers in NUMBERS.items():
+            for number in numbers:
+                if not self.cases[op, number]:
+                    missing.append("%s with number %d" % (NAMES[op], number))
+        for op in EXAMPLES:
+            for i, j in possible_pairs(op):
+                if not self.pairs[op, i, j]:
+                    missing.append("%s with tests %d and %d at once" % (NAMES[op], i, j))
+        for m in (1, 2, 3, 5, 8, 16, 31, 63, 64):
+            for k in range(m):
+                for method in (1, 4) if k else METHODS:
+                    if (method, m, k) not in self.grid:
+                        missing.append("method %d, m %d, k %d" % (method, m, k))
+        for method in (2, 3, 4):
+            for bits in range(62, 68):
+                if (method, bits) not in self.bits:
+                    missing.append("method %d, %d bits" % (method, bits))
+        for number in (1, 2, 3, 4, 5, 6, 11):
+            if "refused %d" % number not in self.answers:
+                missing.append("the program's refusal %d" % number)
+        if len(self.in_pattern) < 256 or len(self.in_text) < 256:
+            missing.append("byte values")
+        if min(self.sides.values()) == 0 or self.failed_verification == 0:
+            missing.append("a length of text, or a failed verification")
+        return missing
