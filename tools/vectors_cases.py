@@ -221,7 +221,7 @@ def long_texts(stream, rng):
                 made = scattered(n // (1 + m // 8), rng.randrange(2**32), own + b"x")
                 stream.whole(pattern, k, method, made)
     for method in METHODS:
-        stream.whole(b"aab", 0, method, scattered(65536, method, b"abx"))
+        stream.whole(b"aab", 0, method, scattered(20000, method, b"abx"))
 
 
 def long_chunks(stream, rng):
