@@ -183,13 +183,14 @@ class Stream:
 
 # By the text at the top of this file; nothing here is shared with the writing.
 
-# A number's size, a text's greatest length, or the length of bytes as they are.
+# A number's size, the greatest length of a text, list or buffer, or the length
+# of bytes as they are.
 ARGUMENTS = {
-    WHOLE: (("text", 300), ("number", 1), ("number", 1), ("text", 65537), ("number", 4)),
+    WHOLE: (("text", 300), ("number", 1), ("number", 1), ("text", 65537), ("places", 65537)),
     OPEN: (("text", 300), ("number", 1), ("number", 1)),
-    FEED: (("text", 65537), ("number", 4)),
+    FEED: (("text", 65537), ("places", 65537)),
     SET_METHOD: (("number", 1),),
-    SAVE: (("number", 2),),
+    SAVE: (("room", 512),),
     LOAD: (("text", 512),),
     HAND: (
         ("take", 64), ("number", 8), ("number", 1), ("number", 1), ("number", 4),
@@ -214,11 +215,21 @@ class Reader:
     def number(self, size):
         return sum(byte * 256**i for i, byte in enumerate(self.take(size)))
 
+    def limited(self, size, most):
+        number = self.number(size)
+        if number > most:
+            raise ValueError("%d before byte %d" % (number, self.at))
+        return number
+
+    def places(self, most):
+        return self.limited(4, most)
+
+    def room(self, most):
+        return self.limited(2, most)
+
     def text(self, longest):
-        form = self.number(1)
-        length = self.number(4 if form else 2)
-        if length > longest or form > 2:
-            raise ValueError("no such text, before byte %d" % self.at)
+        form = self.limited(1, 2)
+        length = self.limited(4 if form else 2, longest)
         if form == 0:
             return Text(b"", self.take(length))
         x = self.number(4) % 2**31 if form == 2 else 0
