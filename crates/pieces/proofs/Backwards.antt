@@ -1,89 +1,79 @@
 -- A backward method over a tail followed by a chunk: the windows of the seam, and then those of the chunk that its last scan did not pass over.
-use mathlib.Core.Path.{_≡_, ap, _∙_}
-use mathlib.Core.List.{List, _++_}
-use Prim.Native.Nat.{ℕ, _+_, _-_, _^_, _≤_, _<_}
-use native.Mathlib.Nat.{sub-zero}
+use mathlib.Core.Path.{_≡_, sym, ap, ap₂, _∙_}
+use mathlib.Core.List.{List}
+use mathlib.Core.Logic.{⊎-elim}
+use Prim.Native.Nat.{ℕ, _+_, _-_, _*_, _^_, _≤_, _<_, min}
 use native.Mathlib.Omega.{arith}
 use lib.ListN.{length, take}
 use Rattle.jumbled.specs.Scan.{Result, Scanned, backward, standing}
 use Rattle.jumbled.proofs.Cuts.{_then_, moved, backward-count, backward-most}
+use Rattle.jumbled.proofs.Sums.{below-or-not}
 use Rattle.listing.specs.declared.Stretch.{Stretch}
-use Rattle.listing.specs.Loops.{Fitting, Listed}
-use Rattle.listing.proofs.Listing.{then-nothing, listed-length}
+use Rattle.listing.specs.Loops.{Fitting}
+use Rattle.backward.specs.declared.Reached.{Reached}
+use Rattle.backward.specs.Searched.{Searched}
 use Rattle.pieces.specs.declared.Split.{Split}
-use Rattle.pieces.specs.Joined.{Parted, Joinable, Found, backwardOver}
-use Rattle.pieces.proofs.Joins.{backward-joined, found-one, found-two}
-use Rattle.pieces.proofs.Stretches.{all-starts, inside, full, seam-fitting, chunk-fitting}
+use Rattle.pieces.specs.Joined.{Prepared, Found, joined, backwardOver}
+use Rattle.pieces.proofs.Joins.{from-zero, backward-joined, backward-none}
+use Rattle.pieces.proofs.Prepared.{onward, all-starts, inside, full, chunk-fitting, found-two, looks-fit}
 
--- the window starts of a text from `first` up to `left`
-abbrev pub from : ℕ → ℕ → ℕ → ℕ → Stretch
-from first left base at = record { first = first; «end» = left; base = base; at = at }
+-- window starts past the last one yield nothing
+backward-least : (scanned : List ℕ → Scanned) (m : ℕ) (T : List ℕ) (s last : ℕ)
+    → backward scanned m T s (last - s) 0 ≡ backward scanned m T (min s last) (last - min s last) 0
+backward-least scanned m T s last =
+    ⊎-elim (λ (h : s < last). ap (λ (n : ℕ). backward scanned m T n (last - n) 0) (omega arith))
+    (λ (h : last ≤ s). backward-none scanned m T s (last - s) 0 (omega arith) ∙ sym (backward-none scanned m T (min s last) (last - min s last) 0 (omega arith)))
+    (below-or-not s last)
 
--- what the windows that start in the tail yield, and how many window starts of the chunk their last scan passes over
-abbrev pub seamed : (List ℕ → Scanned) → List ℕ → List ℕ → List ℕ → ℕ → Result
-seamed scanned P tail chunk left = backward scanned (length P) (tail ++ take (length P - 1) chunk) 0 (left - 0) 0
+-- a loop stops at the stretch's end or past it
+pub not-before : {scanned : List ℕ → Scanned} {m : ℕ} {T : List ℕ} {stretch : Stretch} {before after : List ℕ} {r : Reached}
+    → Searched scanned m T stretch before after r → stretch .end ≤ r .next
+not-before searched = omega (arith, searched .stands)
 
-abbrev pub passed : (List ℕ → Scanned) → List ℕ → List ℕ → List ℕ → ℕ → ℕ
-passed scanned P tail chunk left = standing scanned (length P) (tail ++ take (length P - 1) chunk) 0 (left - 0) 0
+-- the seam's windows were searched, and the chunk's are searched from `first` on
+module _ {P seam chunk : List ℕ} {split : Split} {list : List ℕ} (ready : Prepared P seam chunk split list) (scanned : List ℕ → Scanned)
+    {middle : List ℕ} {r : Reached} (searched : Searched scanned (length P) seam (split .«over_tail») list middle r)
+    (first : ℕ) where
+  one : Result
+  one = backward scanned (length P) seam (split .«over_tail» .first) (split .«over_tail» .end - split .«over_tail» .first) 0
 
-module _ (scanned : List ℕ → Scanned) (P tail chunk : List ℕ) (most : (W : List ℕ) → length W ≤ length P → scanned W .inspections ≤ 64)
-    (base : ℕ) (list : List ℕ) (joinable : Joinable P tail chunk base list)
-    (split : Split) (parted : Parted (length P) (length tail) (length chunk) split) where
-  skip : ℕ
-  skip = passed scanned P tail chunk (split .«in_tail»)
+  two : Result
+  two = backward scanned (length P) chunk first (split .«over_chunk» .end - first) 0
 
-  whole : backwardOver scanned (length P) (tail ++ chunk)
-      ≡ seamed scanned P tail chunk (split .«in_tail») then moved (length tail) (backward scanned (length P) chunk skip (split .«in_chunk» - skip) 0)
-  unfolding skip
-  whole =
-      rw (sub-zero (split .«in_tail»))
-      (backward-joined scanned (length P) tail chunk (split .«in_tail») (split .«in_chunk») (all-starts P tail chunk base list joinable split parted)
-      (inside P tail chunk base list joinable split parted) (full P tail chunk base list joinable split parted))
+  few : length (one .positions) ≤ split .«over_tail» .end
+  unfolding one
+  few = omega (arith, backward-count scanned (length P) seam (split .«over_tail» .first) (split .«over_tail» .end - split .«over_tail» .first) 0)
 
-  seam-count : length (seamed scanned P tail chunk (split .«in_tail») .positions) ≤ split .«in_tail»
-  seam-count =
-      omega (arith, backward-count scanned (length P) (tail ++ take (length P - 1) chunk) 0 (split .«in_tail» - 0) 0)
+  whole : first ≡ min (r .next - split .«over_tail» .end) (split .«over_chunk» .end)
+      → backwardOver scanned (length P) (joined split seam chunk) ≡ one then moved (length (take (split .tail) seam)) two
+  unfolding one two
+  whole passed =
+      backward-joined scanned (length P) (take (split .tail) seam) chunk seam (ready .reaching) (split .«over_tail» .end) (split .«over_chunk» .end)
+      (all-starts ready) (inside ready) (full ready)
+      ∙ ap₂ (λ (a b : Result). a then moved (length (take (split .tail) seam)) b)
+      (sym (from-zero (λ (s left : ℕ). backward scanned (length P) seam s left 0) (ready .parted .tail-starts .from-first)))
+      (backward-least scanned (length P) chunk (standing scanned (length P) seam 0 (split .«over_tail» .end) 0) (split .«over_chunk» .end)
+      ∙ ap (λ (n : ℕ). backward scanned (length P) chunk n (split .«over_chunk» .end - n) 0) stands)
+    where
+      stands : min (standing scanned (length P) seam 0 (split .«over_tail» .end) 0) (split .«over_chunk» .end) ≡ first
+      stands =
+          let same = from-zero (λ (s left : ℕ). standing scanned (length P) seam s left 0) {count = split .«over_tail» .end} (ready .parted .tail-starts .from-first) in
+          omega (arith, searched .stands)
 
-  seam-room : split .«in_tail» ≤ length list
-  seam-room = omega (arith, seam-fitting P tail chunk base list joinable split parted .room)
+  pub backward-fitting : first ≤ split .«over_chunk» .end → Fitting chunk (length P) middle (onward split first (r .at))
+  unfolding one
+  backward-fitting = chunk-fitting ready one few (searched .listed) first
 
-  module _ {middle : List ℕ} {at looks next : ℕ} (stands : next ≡ split .«in_tail» + passed scanned P tail chunk (split .«in_tail»))
-      (l : Listed (seamed scanned P tail chunk (split .«in_tail»)) (from 0 (split .«in_tail») base 0) list middle at looks) where
-    -- no window of the chunk is left to scan
-    pub pieces-one : split .«in_chunk» ≤ next - split .«in_tail»
-        → Found (backwardOver scanned (length P) (tail ++ chunk)) base list middle (record { found = at; looks = looks })
-    unfolding skip backward
-    pieces-one over =
-        rw (whole ∙ ap (λ (n : ℕ). seamed scanned P tail chunk (split .«in_tail») then moved (length tail) (backward scanned (length P) chunk skip n 0)) none
-        ∙ then-nothing (seamed scanned P tail chunk (split .«in_tail»)))
-        (found-one (seamed scanned P tail chunk (split .«in_tail»)) base 0 (split .«in_tail») list middle at looks l)
-      where
-        none : split .«in_chunk» - skip ≡ 0
-        none = omega (arith, stands)
+  module _ {after : List ℕ} {r' : Reached} (searched' : Searched scanned (length P) chunk (onward split first (r .at)) middle after r') where
+    pub backward-found : first ≡ min (r .next - split .«over_tail» .end) (split .«over_chunk» .end)
+        → Found (backwardOver scanned (length P) (joined split seam chunk)) (split .«over_tail» .base) list after (record { found = r' .at; looks = r .looks + r' .looks })
+    unfolding one two
+    backward-found passed =
+        found-two ready one few (searched .listed) two (searched' .listed) (backwardOver scanned (length P) (joined split seam chunk)) (whole passed)
 
-    -- the search goes on in the chunk
-    pub next-fitting : next - split .«in_tail» < split .«in_chunk»
-        → Fitting chunk (length P) middle (from (next - split .«in_tail») (split .«in_chunk») (base + length tail) at)
-    next-fitting h =
-        chunk-fitting P tail chunk base list joinable split parted (next - split .«in_tail») at middle (omega arith) (omega (arith, l .next-place, seam-count))
-        (listed-length (from 0 (split .«in_tail») base 0) list (seamed scanned P tail chunk (split .«in_tail»)) l (omega (arith, seam-count, seam-room)))
-
-    module _ {after : List ℕ} {at' looks' : ℕ}
-        (l' : Listed (backward scanned (length P) chunk (next - split .«in_tail») (split .«in_chunk» - (next - split .«in_tail»)) 0)
-        (from (next - split .«in_tail») (split .«in_chunk») (base + length tail) at) middle after at' looks') where
-      pub pieces-two : Found (backwardOver scanned (length P) (tail ++ chunk)) base list after (record { found = at'; looks = looks + looks' })
-      unfolding skip
-      pieces-two =
-          rw (whole ∙ ap (λ (n : ℕ). seamed scanned P tail chunk (split .«in_tail») then moved (length tail) (backward scanned (length P) chunk n (split .«in_chunk» - n) 0)) stood)
-          (found-two (seamed scanned P tail chunk (split .«in_tail»)) (backward scanned (length P) chunk (next - split .«in_tail») (split .«in_chunk» - (next - split .«in_tail»)) 0)
-          (length tail) base 0 (split .«in_tail») (next - split .«in_tail») (split .«in_chunk») list middle after at at' looks looks' (omega (arith, seam-count, seam-room)) l l')
-        where
-          stood : passed scanned P tail chunk (split .«in_tail») ≡ next - split .«in_tail»
-          stood = omega (arith, stands)
-
-      pub looks-fit : looks + looks' < 2 ^ 41
-      looks-fit =
-          let seam-most = backward-most scanned (length P) (tail ++ take (length P - 1) chunk) 64 most 0 (split .«in_tail» - 0) 0 in
-          let chunk-most = backward-most scanned (length P) chunk 64 most (next - split .«in_tail») (split .«in_chunk» - (next - split .«in_tail»)) 0 in
-          let numbers = seam-fitting P tail chunk base list joinable split parted .numbered in
-          omega (arith, l .inspected, l' .inspected, joinable .numbered, parted .chunk-starts, joinable .tail-short)
+    pub backward-looks : ((W : List ℕ) → length W ≤ length P → scanned W .inspections ≤ 64) → r .looks + r' .looks < 2 ^ 64
+    unfolding one two
+    backward-looks inspections =
+        looks-fit ready one few (searched .listed) two (searched' .listed)
+        (omega (arith, backward-most scanned (length P) seam 64 inspections (split .«over_tail» .first) (split .«over_tail» .end - split .«over_tail» .first) 0))
+        (omega (arith, backward-most scanned (length P) chunk 64 inspections first (split .«over_chunk» .end - first) 0))

@@ -1,33 +1,30 @@
 -- A forward method over a tail followed by a chunk: the windows of the seam, its first bytes taken before, and then those of the chunk.
-use mathlib.Core.Path.{_≡_, refl, ap, _∙_}
+use mathlib.Core.Path.{_≡_, ap, _∙_}
 use mathlib.Core.Bool.{Bool, true, false, cond}
-use mathlib.Core.List.{List, _++_}
-use Prim.Native.Nat.{ℕ, _+_, _-_, _^_, _≤_, _<_}
-use native.Mathlib.Nat.{le-refl, sub-zero}
+use mathlib.Core.List.{List}
+use Prim.Native.Nat.{ℕ, _+_, _-_, _*_, _^_, _≤_, _<_}
+use native.Mathlib.Nat.{le-refl}
 use native.Mathlib.Omega.{arith}
 use lib.Dec.{eqb}
 use lib.ListN.{length, take, drop}
 use lib.Seq.{drop-append-seam, take-take}
 use Rattle.jumbled.specs.Match.{matches}
 use Rattle.jumbled.specs.Heap.{heapSum, exact}
-use Rattle.jumbled.specs.Steps.{hcamJudged}
+use Rattle.jumbled.specs.Steps.{countJudged, hcamJudged}
 use Rattle.jumbled.specs.Scan.{Result, Judged, unverified, forward}
 use Rattle.jumbled.proofs.Cuts.{_then_, moved, forward-count, forward-most}
-use Rattle.listing.specs.declared.Stretch.{Stretch}
 use Rattle.listing.specs.Loops.{Fitting, Listed}
-use Rattle.listing.proofs.Listing.{then-nothing, listed-length}
+use Rattle.listing.proofs.Listing.{then-nothing}
 use Rattle.forward.specs.Windows.{lead}
 use Rattle.pieces.specs.declared.Split.{Split}
-use Rattle.pieces.specs.Joined.{Parted, Joinable, Found, primed, forwardOver}
-use Rattle.pieces.proofs.Joins.{forward-joined, forward-none, found-one, found-two}
-use Rattle.pieces.proofs.Stretches.{all-starts, inside, full, seam-fitting, chunk-fitting}
+use Rattle.pieces.specs.Joined.{Prepared, Found, joined, primed, forwardOver}
+use Rattle.pieces.proofs.Joins.{from-zero, forward-joined, forward-none}
+use Rattle.pieces.proofs.Prepared.{onward, all-starts, inside, full, chunk-fitting, found-one, found-two, looks-fit}
 
--- after the tail the state is that of the chunk's first bytes
-pub lead-seam : (m : ℕ) (tail chunk : List ℕ) (s : ℕ) → s ≡ length tail → lead m (tail ++ take (m - 1) chunk) s ≡ lead m chunk 0
-lead-seam m tail chunk s e =
-    ap (λ (n : ℕ). take (m - 1) (drop n (tail ++ take (m - 1) chunk))) e
-    ∙ ap (take (m - 1)) (drop-append-seam tail (take (m - 1) chunk))
-    ∙ take-take (m - 1) (m - 1) chunk (le-refl (m - 1))
+-- counting verifies nothing
+pub count-few : (P : List ℕ) (k : ℕ) (W : List ℕ) → countJudged P k W .verification ≤ 64
+unfolding countJudged
+count-few P k W = omega arith
 
 -- a verification takes the window's bytes
 pub hcam-few : (P : List ℕ) → length P ≤ 64 → (W : List ℕ) → hcamJudged P W .verification ≤ 64
@@ -40,58 +37,68 @@ hcam-few P short W = case (eqb (heapSum P W) (heapSum P P)) (exact P)
     case true false = short
     case false x = omega arith
 
--- a stretch that begins at a text's first window start
-abbrev pub from-first : ℕ → ℕ → ℕ → Stretch
-from-first left base at = record { first = 0; «end» = left; base = base; at = at }
-
 -- what the windows that start in the tail yield
-abbrev pub seamed : (List ℕ → Judged) → List ℕ → List ℕ → List ℕ → ℕ → Result
-seamed judged P tail chunk left = primed (length P - 1) (forward judged (length P) (tail ++ take (length P - 1) chunk) 0 left 1)
+abbrev pub seamed : (List ℕ → Judged) → List ℕ → List ℕ → Split → Result
+seamed judged P seam split = primed (length P - 1) (forward judged (length P) seam 0 (split .«over_tail» .end) 1)
 
-module _ (judged : List ℕ → Judged) (few : (W : List ℕ) → judged W .verification ≤ 64) (P tail chunk : List ℕ) (base : ℕ) (list : List ℕ)
-    (joinable : Joinable P tail chunk base list) (split : Split) (parted : Parted (length P) (length tail) (length chunk) split) where
-  whole : 0 < split .«in_tail» + split .«in_chunk»
-      → forwardOver judged (length P) (tail ++ chunk) ≡ (seamed judged P tail chunk (split .«in_tail»)) then moved (length tail) (forward judged (length P) chunk 0 (split .«in_chunk») 1)
-  whole any =
-      forward-joined judged (length P) tail chunk (split .«in_tail») (split .«in_chunk») (omega (arith, joinable .tail-short))
-      (all-starts P tail chunk base list joinable split parted) any (inside P tail chunk base list joinable split parted)
-      (full P tail chunk base list joinable split parted)
+module _ {P seam chunk : List ℕ} {split : Split} {list : List ℕ} (ready : Prepared P seam chunk split list) where
+  -- after the tail the state is that of the chunk's first bytes
+  pub lead-on : (split .«over_chunk» .end ≡ 0 → ⊥)
+      → lead (length P) seam (split .«over_tail» .end) ≡ lead (length P) chunk (split .«over_chunk» .first)
+  lead-on some =
+      ap (λ (n : ℕ). take m (drop n seam)) (full ready (omega (arith, some)))
+      ∙ ap (λ (l : List ℕ). take m (drop (length tail) l)) (ready .reaching)
+      ∙ ap (take m) (drop-append-seam tail (take m chunk))
+      ∙ take-take m m chunk (le-refl m)
+      ∙ ap (λ (n : ℕ). take m (drop n chunk)) first
+    where
+      m : ℕ
+      m = length P - 1
 
-  seam-count : length (seamed judged P tail chunk (split .«in_tail») .positions) ≤ split .«in_tail»
-  seam-count = forward-count judged (length P) (tail ++ take (length P - 1) chunk) 0 (split .«in_tail») 1
+      tail : List ℕ
+      tail = take (split .tail) seam
 
-  seam-room : split .«in_tail» ≤ length list
-  seam-room = omega (arith, seam-fitting P tail chunk base list joinable split parted .room)
+      first : 0 ≡ split .«over_chunk» .first
+      first = omega arith
 
-  -- no window starts in the chunk
-  pub pieces-one : {after : List ℕ} {at looks : ℕ} → 0 < split .«in_tail» + split .«in_chunk» → split .«in_chunk» ≡ 0
-      → Listed (seamed judged P tail chunk (split .«in_tail»)) (from-first (split .«in_tail») base 0) list after at looks
-      → Found (forwardOver judged (length P) (tail ++ chunk)) base list after (record { found = at; looks = looks })
-  pieces-one {after} {at} {looks} any none l =
-      rw (whole any ∙ ap (λ (r : Result). (seamed judged P tail chunk (split .«in_tail»)) then moved (length tail) r) (ap (λ (n : ℕ). forward judged (length P) chunk 0 n 1) none ∙ forward-none judged (length P) chunk 0 1 refl) ∙ then-nothing (seamed judged P tail chunk (split .«in_tail»)))
-      (found-one (seamed judged P tail chunk (split .«in_tail»)) base 0 (split .«in_tail») list after at looks l)
+  module _ (judged : List ℕ → Judged) where
+    whole : forwardOver judged (length P) (joined split seam chunk)
+        ≡ seamed judged P seam split then moved (length (take (split .tail) seam)) (forward judged (length P) chunk 0 (split .«over_chunk» .end) 1)
+    whole =
+        forward-joined judged (length P) (take (split .tail) seam) chunk seam (ready .reaching) (split .«over_tail» .end) (split .«over_chunk» .end)
+        (omega arith) (all-starts ready) (ready .any) (inside ready) (full ready)
 
-  -- the search goes on in the chunk
-  module _ {middle : List ℕ} {at looks : ℕ} (l : Listed (seamed judged P tail chunk (split .«in_tail»)) (from-first (split .«in_tail») base 0) list middle at looks) where
-    pub next-fitting : Fitting chunk (length P) middle (from-first (split .«in_chunk») (base + length tail) at)
-    next-fitting =
-        chunk-fitting P tail chunk base list joinable split parted 0 at middle (omega arith) (omega (arith, l .next-place, seam-count))
-        (listed-length (from-first (split .«in_tail») base 0) list (seamed judged P tail chunk (split .«in_tail»)) l (omega (arith, seam-count, seam-room)))
+    few : length (seamed judged P seam split .positions) ≤ split .«over_tail» .end
+    few = forward-count judged (length P) seam 0 (split .«over_tail» .end) 1
 
-    pub pieces-two : {after : List ℕ} {at' looks' : ℕ} → 0 < split .«in_tail» + split .«in_chunk»
-        → Listed (forward judged (length P) chunk 0 (split .«in_chunk» - 0) 1) (from-first (split .«in_chunk») (base + length tail) at) middle after at' looks'
-        → Found (forwardOver judged (length P) (tail ++ chunk)) base list after (record { found = at'; looks = looks + looks' })
-    pieces-two {after} {at'} {looks'} any l' =
-        rw (whole any)
-        (found-two (seamed judged P tail chunk (split .«in_tail»)) (forward judged (length P) chunk 0 (split .«in_chunk») 1) (length tail) base 0 (split .«in_tail») 0 (split .«in_chunk») list middle after at at' looks looks'
-        (omega (arith, seam-count, seam-room)) l (rw (sub-zero (split .«in_chunk»)) at l'))
+    -- the seam's windows were searched
+    module _ {middle : List ℕ} {at looks : ℕ} (listed : Listed (seamed judged P seam split) (split .«over_tail») list middle at looks) where
+      -- no window starts in the chunk
+      pub forward-one : split .«over_chunk» .end ≡ 0
+          → Found (forwardOver judged (length P) (joined split seam chunk)) (split .«over_tail» .base) list middle (record { found = at; looks = looks })
+      forward-one none =
+          found-one ready (seamed judged P seam split) few listed (forwardOver judged (length P) (joined split seam chunk))
+          (whole
+          ∙ ap (λ (r : Result). seamed judged P seam split then moved (length (take (split .tail) seam)) r) (forward-none judged (length P) chunk 0 (split .«over_chunk» .end) 1 none)
+          ∙ then-nothing (seamed judged P seam split))
 
-    pub looks-fit : {after : List ℕ} {at' looks' : ℕ}
-        → Listed (forward judged (length P) chunk 0 (split .«in_chunk» - 0) 1) (from-first (split .«in_chunk») (base + length tail) at) middle after at' looks'
-        → looks + looks' < 2 ^ 41
-    looks-fit l' =
-        let seam-most = forward-most judged (length P) (tail ++ take (length P - 1) chunk) 64 few 0 (split .«in_tail») in
-        let chunk-most = forward-most judged (length P) chunk 64 few 0 (split .«in_chunk» - 0) in
-        let numbers = next-fitting .numbered in
-        let numbers' = seam-fitting P tail chunk base list joinable split parted .numbered in
-        omega (arith, l .inspected, l' .inspected, joinable .short)
+      -- the search goes on in the chunk
+      pub forward-fitting : Fitting chunk (length P) middle (onward split (split .«over_chunk» .first) at)
+      forward-fitting = chunk-fitting ready (seamed judged P seam split) few listed (split .«over_chunk» .first) (omega arith)
+
+      module _ {after : List ℕ} {at' looks' : ℕ}
+          (listed' : Listed (forward judged (length P) chunk (split .«over_chunk» .first) (split .«over_chunk» .end - split .«over_chunk» .first) 1)
+          (onward split (split .«over_chunk» .first) at) middle after at' looks') where
+        from-first : forward judged (length P) chunk (split .«over_chunk» .first) (split .«over_chunk» .end - split .«over_chunk» .first) 1
+            ≡ forward judged (length P) chunk 0 (split .«over_chunk» .end) 1
+        from-first = from-zero (λ (s left : ℕ). forward judged (length P) chunk s left 1) (ready .parted .chunk-starts .from-first)
+
+        pub forward-two : Found (forwardOver judged (length P) (joined split seam chunk)) (split .«over_tail» .base) list after (record { found = at'; looks = looks + looks' })
+        forward-two =
+            found-two ready (seamed judged P seam split) few listed _ listed' (forwardOver judged (length P) (joined split seam chunk)) (rw from-first whole)
+
+        pub forward-looks : ((W : List ℕ) → judged W .verification ≤ 64) → looks + looks' < 2 ^ 64
+        forward-looks verification =
+            looks-fit ready (seamed judged P seam split) few listed _ listed'
+            (omega (arith, ready .joinable .short, forward-most judged (length P) seam 64 verification 0 (split .«over_tail» .end)))
+            (rw from-first (forward-most judged (length P) chunk 64 verification 0 (split .«over_chunk» .end)))

@@ -1,6 +1,6 @@
 pub mod Joins
 pub mod Seams
-pub mod Stretches
+pub mod Prepared
 pub mod Forwards
 pub mod Backwards
 pub mod Scans

@@ -1,10 +1,14 @@
 -- The steps of a method by its number, as the drivers that the functions here run.
 use mathlib.Core.Path.{_≡_, refl}
+use mathlib.Core.Bool.{Bool, true, false, cond}
 use mathlib.Core.List.{List}
 use Prim.Native.Nat.{ℕ, zero, suc, _≤_}
 use native.Mathlib.Nat.{not-suc-le-zero}
 use native.Mathlib.Omega.{arith}
+use lib.Dec.{eqb}
 use lib.ListN.{length}
+use Rattle.jumbled.specs.Match.{starts}
+use Rattle.jumbled.specs.Scan.{Result, nothing, backward, forward}
 use Rattle.jumbled.specs.Steps.{countJudged, hcamJudged, steps}
 use Rattle.pieces.specs.Joined.{forwardOver, backwardOver}
 use Rattle.pieces.specs.Scans.{scanOf}
@@ -26,3 +30,13 @@ steps-backward P k (suc (suc zero)) T least most = refl
 steps-backward P k (suc (suc (suc zero))) T least most = refl
 steps-backward P k (suc (suc (suc (suc zero)))) T least most = refl
 steps-backward P k (suc (suc (suc (suc (suc n))))) T least most = absurd (omega arith)
+
+-- no window starts: no method yields anything
+pub steps-none : (P : List ℕ) (k method : ℕ) (T : List ℕ) → starts (length P) T ≡ 0 → steps P k method T ≡ nothing
+unfolding steps forward backward
+steps-none P k method T none =
+    rw none (either (eqb method 1) (either (eqb method 2) (either (eqb method 3) (either (eqb method 4) (either (eqb method 5) refl)))))
+  where
+    either : (t : Bool) {r : Result} → r ≡ nothing → cond t nothing r ≡ nothing
+    either true e = refl
+    either false e = e

@@ -1,8 +1,8 @@
 -- What a search of a tail followed by a chunk asks of its arguments, and what it says it did: document 01, "A search and its calls", Feed.
 use mathlib.Core.Path.{_≡_}
-use mathlib.Core.List.{List}
+use mathlib.Core.List.{List, _++_}
 use Prim.Native.Nat.{ℕ, suc, _+_, _-_, _^_, _≤_, _<_, min}
-use lib.ListN.{length}
+use lib.ListN.{length, take}
 use Rattle.jumbled.specs.Match.{starts}
 use Rattle.jumbled.specs.Scan.{Result, Scanned, backward, Judged, forward}
 use Rattle.jumbled.specs.Refusals.{given, methodTests}
@@ -11,11 +11,6 @@ use Rattle.listing.specs.Loops.{Fitting}
 use Rattle.listing.specs.Placed.{placed, shifted}
 use Rattle.pieces.specs.declared.Done.{Done}
 use Rattle.pieces.specs.declared.Split.{Split}
-
--- The window starts of a tail of t bytes and a chunk of c, for windows of m: those in the tail, and those in the chunk
-pub record Parted (m t c : ℕ) (r : Split) : Type 0 where
-  pub tail-starts : r .«in_tail» ≡ min t (suc (t + c) - m)
-  pub chunk-starts : r .«in_chunk» ≡ suc (t + c) - m - min t (suc (t + c) - m)
 
 -- The tail is shorter than the pattern, every position fits 32 bits, and there is a place for each byte of the chunk
 pub record Joinable (P tail chunk : List ℕ) (base : ℕ) (list : List ℕ) : Type 0 where
@@ -35,6 +30,32 @@ pub record Found (result : Result) (base : ℕ) (before after : List ℕ) (r : D
   pub filled : after ≡ placed before 0 (shifted base (result .positions))
   pub found : r .found ≡ length (result .positions)
   pub looks : r .looks ≡ result .inspections
+
+-- ---- the tail and the chunk made ready for the search
+
+-- The first `count` window starts of a text, with `base` added to each position, for a list with nothing in it yet
+pub record FirstStarts (count base : ℕ) (stretch : Stretch) : Type 0 where
+  pub from-first : stretch .first ≡ 0
+  pub counted : stretch .end ≡ count
+  pub based : stretch .base ≡ base
+  pub unlisted : stretch .at ≡ 0
+
+-- The windows of m bytes of a tail of t bytes and a chunk of c: those that start in the tail, and those that start in the chunk
+pub record Parted (m t c base : ℕ) (r : Split) : Type 0 where
+  pub tail-length : r .tail ≡ t
+  pub tail-starts : FirstStarts (min t (suc (t + c) - m)) base (r .«over_tail»)
+  pub chunk-starts : FirstStarts (suc (t + c) - m - t) (base + t) (r .«over_chunk»)
+
+-- The tail, which the seam begins with, followed by the chunk
+abbrev pub joined : Split → List ℕ → List ℕ → List ℕ
+joined split seam chunk = take (split .tail) seam ++ chunk
+
+-- The seam is the tail and as much of the chunk as a window that starts in the tail can reach, and there is a window
+pub record Prepared (P seam chunk : List ℕ) (split : Split) (list : List ℕ) : Type 0 where
+  pub joinable : Joinable P (take (split .tail) seam) chunk (split .«over_tail» .base) list
+  pub parted : Parted (length P) (length (take (split .tail) seam)) (length chunk) (split .«over_tail» .base) split
+  pub reaching : seam ≡ take (split .tail) seam ++ take (length P - 1) chunk
+  pub any : 0 < split .«over_tail» .end + split .«over_chunk» .end
 
 -- A driver over all window starts of a text
 abbrev pub forwardOver : (List ℕ → Judged) → ℕ → List ℕ → Result

@@ -2,12 +2,13 @@
 
 ghost use mathlib.Core.Path.{_≡_};
 ghost use mathlib.Core.List.{_++_};
-ghost use Prim.Native.Nat.{_+_, _-_, _^_, _≤_, _<_};
+ghost use Prim.Native.Nat.{_+_, _-_, _^_, _≤_, _<_, min};
 ghost use lib.ListN.{length, take};
 ghost use Rattle.pieces.specs.Seam.{contents};
 ghost use Rattle.parikh.specs.Table.{parikh};
 ghost use Rattle.jumbled.specs.Steps.{countJudged, hcamJudged, steps};
-ghost use Rattle.pieces.specs.Joined.{Parted, Joinable, Found, Searchable, Startable, forwardOver, backwardOver};
+ghost use Rattle.jumbled.specs.Refusals.{given, methodTests};
+ghost use Rattle.pieces.specs.Joined.{Parted, Prepared, Found, Searchable, Startable, joined, forwardOver, backwardOver};
 ghost use Rattle.pieces.specs.Counting.{CountedSeam};
 ghost use Rattle.pieces.specs.Hashing.{HashableSeam, HashedSeam};
 ghost use Rattle.backward.specs.Searched.{Searchable as Scannable, Searched};
@@ -26,33 +27,44 @@ pub struct Done {
     pub looks: usize,
 }
 
-// How many windows start in the tail, and how many in the chunk.
-struct Split {
-    in_tail: usize,
-    in_chunk: usize,
+fn least(a: usize, b: usize) -> usize
+    ensures { λ r. ⌜ r ≡ min a b ⌝ }
+{
+    if a < b { a } else { b }
 }
 
-fn split_starts(m: usize, tail: usize, chunk: usize) -> Split
-    requires { ⌜ tail + chunk ≤ 2 ^ 32 ⌝ }
-    ensures { λ r. ⌜ Parted m tail chunk r ⌝ }
+// The windows of a tail and of the chunk after it.
+struct Split {
+    // How many bytes the tail has, the seam's first ones.
+    tail: usize,
+    // The windows that start in the tail, each of which lies in the seam,
+    over_tail: Stretch,
+    // and those that start in the chunk.
+    over_chunk: Stretch,
+}
+
+// Each window of m bytes starts in the tail or in the chunk.
+fn split_starts(m: usize, tail: usize, chunk: usize, base: usize) -> Split
+    requires { ⌜ base + (tail + chunk) ≤ 2 ^ 32 ⌝ }
+    ensures { λ r. ⌜ Parted m tail chunk base r ⌝ }
 {
     let past = tail + chunk + 1;
-    if past <= m {
-        return Split {
-            in_tail: 0,
-            in_chunk: 0,
-        };
-    }
-    let starts = past - m;
-    if starts <= tail {
-        return Split {
-            in_tail: starts,
-            in_chunk: 0,
-        };
-    }
+    let starts = past - least(past, m);
+    let in_tail = least(starts, tail);
     Split {
-        in_tail: tail,
-        in_chunk: starts - tail,
+        tail,
+        over_tail: Stretch {
+            first: 0,
+            end: in_tail,
+            base,
+            at: 0,
+        },
+        over_chunk: Stretch {
+            first: 0,
+            end: starts - in_tail,
+            base: base + tail,
+            at: 0,
+        },
     }
 }
 
@@ -87,12 +99,7 @@ fn seam_of(tail: &[u8], chunk: &[u8], m: usize) -> Seam
     requires { ⌜ (length (now tail) < m) × (m ≤ 64) ⌝ }
     ensures { λ r. ⌜ (contents r ≡ now (tail .entry) ++ take (m - 1) (now (chunk .entry))) × (r .len ≤ 128) ⌝ }
 {
-    let reach = m - 1;
-    let count = if chunk.len() < reach {
-        chunk.len()
-    } else {
-        reach
-    };
+    let count = least(chunk.len(), m - 1);
     let empty = Seam {
         bytes: [0u8; 128],
         len: 0,
@@ -113,7 +120,7 @@ fn count_seam(
     ensures { λ r. ⌜ CountedSeam (now (pattern .entry)) k (now (seam .entry)) stretch (now (list .entry)) (now (list .exit)) r ⌝ }
 {
     let start = forward::count_start(pattern, pattern_counts, seam);
-    let windows = forward::count_windows(
+    let mut windows = forward::count_windows(
         pattern,
         pattern_counts,
         k,
@@ -122,64 +129,33 @@ fn count_seam(
         stretch,
         list,
     );
-    let sliding = windows.sliding;
-    Counted {
-        sliding,
-        at: windows.at,
-        looks: start.looks + windows.looks,
-    }
+    windows.looks += start.looks;
+    windows
 }
 
-// Method 1 over a tail followed by a chunk.
+// Method 1 over the seam and then the chunk.
 fn count_pieces(
     pattern: &[u8],
     k: usize,
-    tail: &[u8],
+    seam: &[u8],
     chunk: &[u8],
-    base: usize,
+    split: Split,
     list: &mut [u32],
 ) -> Done
-    requires { ⌜ Joinable (now pattern) (now tail) (now chunk) base (now list) ⌝ }
-    ensures { λ r. ⌜ Found (forwardOver (countJudged (now (pattern .entry)) k) (length (now (pattern .entry))) (now (tail .entry) ++ now (chunk .entry))) base (now (list .entry)) (now (list .exit)) r ⌝ }
+    requires { ⌜ Prepared (now pattern) (now seam) (now chunk) split (now list) ⌝ }
+    ensures { λ r. ⌜ Found (forwardOver (countJudged (now (pattern .entry)) k) (length (now (pattern .entry))) (joined split (now (seam .entry)) (now (chunk .entry)))) (split .«over_tail» .base) (now (list .entry)) (now (list .exit)) r ⌝ }
 {
-    let split = split_starts(pattern.len(), tail.len(), chunk.len());
-    let in_tail = split.in_tail;
-    let in_chunk = split.in_chunk;
-    if in_tail + in_chunk == 0 {
-        return Done { found: 0, looks: 0 };
-    }
-    let pattern_counts = parikh::counts(pattern);
-    let seam = seam_of(tail, chunk, pattern.len());
-    let bytes = seam.bytes;
-    let len = seam.len;
-    let over_tail = Stretch {
-        first: 0,
-        end: in_tail,
-        base,
-        at: 0,
-    };
-    let first = count_seam(pattern, pattern_counts, k, &bytes[..len], over_tail, list);
-    if in_chunk == 0 {
+    let counts = parikh::counts(pattern);
+    let first = count_seam(pattern, counts, k, seam, split.over_tail, list);
+    if split.over_chunk.end == 0 {
         return Done {
             found: first.at,
             looks: first.looks,
         };
     }
-    let over_chunk = Stretch {
-        first: 0,
-        end: in_chunk,
-        base: base + tail.len(),
-        at: first.at,
-    };
-    let second = forward::count_windows(
-        pattern,
-        pattern_counts,
-        k,
-        chunk,
-        first.sliding,
-        over_chunk,
-        list,
-    );
+    let mut over_chunk = split.over_chunk;
+    over_chunk.at = first.at;
+    let second = forward::count_windows(pattern, counts, k, chunk, first.sliding, over_chunk, list);
     Done {
         found: second.at,
         looks: first.looks + second.looks,
@@ -200,7 +176,7 @@ fn hcam_seam(
     ensures { λ r. ⌜ HashedSeam (now (pattern .entry)) (now (seam .entry)) stretch (now (list .entry)) (now (list .exit)) r ⌝ }
 {
     let start = forward::hcam_start(pattern, table, seam);
-    let windows = forward::hcam_windows(
+    let mut windows = forward::hcam_windows(
         pattern,
         pattern_counts,
         table,
@@ -210,61 +186,31 @@ fn hcam_seam(
         stretch,
         list,
     );
-    Hashed {
-        sum: windows.sum,
-        at: windows.at,
-        looks: start.looks + windows.looks,
-    }
+    windows.looks += start.looks;
+    windows
 }
 
-// Method 5 over a tail followed by a chunk.
-fn hcam_pieces(pattern: &[u8], tail: &[u8], chunk: &[u8], base: usize, list: &mut [u32]) -> Done
-    requires { ⌜ Joinable (now pattern) (now tail) (now chunk) base (now list) ⌝ }
-    ensures { λ r. ⌜ Found (forwardOver (hcamJudged (now (pattern .entry))) (length (now (pattern .entry))) (now (tail .entry) ++ now (chunk .entry))) base (now (list .entry)) (now (list .exit)) r ⌝ }
+// Method 5 over the seam and then the chunk.
+fn hcam_pieces(pattern: &[u8], seam: &[u8], chunk: &[u8], split: Split, list: &mut [u32]) -> Done
+    requires { ⌜ Prepared (now pattern) (now seam) (now chunk) split (now list) ⌝ }
+    ensures { λ r. ⌜ Found (forwardOver (hcamJudged (now (pattern .entry))) (length (now (pattern .entry))) (joined split (now (seam .entry)) (now (chunk .entry)))) (split .«over_tail» .base) (now (list .entry)) (now (list .exit)) r ⌝ }
 {
-    let split = split_starts(pattern.len(), tail.len(), chunk.len());
-    let in_tail = split.in_tail;
-    let in_chunk = split.in_chunk;
-    if in_tail + in_chunk == 0 {
-        return Done { found: 0, looks: 0 };
-    }
-    let pattern_counts = parikh::counts(pattern);
+    let counts = parikh::counts(pattern);
     let table = heap::heap_table(pattern);
     let values = table.values;
     let target = forward::hcam_sum(values, pattern);
-    let seam = seam_of(tail, chunk, pattern.len());
-    let bytes = seam.bytes;
-    let len = seam.len;
-    let over_tail = Stretch {
-        first: 0,
-        end: in_tail,
-        base,
-        at: 0,
-    };
-    let first = hcam_seam(
-        pattern,
-        pattern_counts,
-        table,
-        target,
-        &bytes[..len],
-        over_tail,
-        list,
-    );
-    if in_chunk == 0 {
+    let first = hcam_seam(pattern, counts, table, target, seam, split.over_tail, list);
+    if split.over_chunk.end == 0 {
         return Done {
             found: first.at,
             looks: first.looks,
         };
     }
-    let over_chunk = Stretch {
-        first: 0,
-        end: in_chunk,
-        base: base + tail.len(),
-        at: first.at,
-    };
+    let mut over_chunk = split.over_chunk;
+    over_chunk.at = first.at;
     let second = forward::hcam_windows(
         pattern,
-        pattern_counts,
+        counts,
         table,
         target,
         chunk,
@@ -300,47 +246,25 @@ fn backward_stretch(
     backward::abam(pattern, k, tables, text, stretch, list)
 }
 
-// Methods 2, 3 and 4 over a tail followed by a chunk.
+// Methods 2, 3 and 4 over the seam and then the chunk.
 fn backward_pieces(
     pattern: &[u8],
     k: usize,
     method: u8,
-    tail: &[u8],
+    seam: &[u8],
     chunk: &[u8],
-    base: usize,
+    split: Split,
     list: &mut [u32],
 ) -> Done
-    requires { ⌜ (Joinable (now pattern) (now tail) (now chunk) base (now list)) × (Packable (now pattern) k method) ⌝ }
-    ensures { λ r. ⌜ Found (backwardOver (scanOf (now (pattern .entry)) k method) (length (now (pattern .entry))) (now (tail .entry) ++ now (chunk .entry))) base (now (list .entry)) (now (list .exit)) r ⌝ }
+    requires { ⌜ (Prepared (now pattern) (now seam) (now chunk) split (now list)) × (Packable (now pattern) k method) ⌝ }
+    ensures { λ r. ⌜ Found (backwardOver (scanOf (now (pattern .entry)) k method) (length (now (pattern .entry))) (joined split (now (seam .entry)) (now (chunk .entry)))) (split .«over_tail» .base) (now (list .entry)) (now (list .exit)) r ⌝ }
 {
-    let split = split_starts(pattern.len(), tail.len(), chunk.len());
-    let in_tail = split.in_tail;
-    let in_chunk = split.in_chunk;
     let tables = packed::tables_of(pattern, k, method);
-    let seam = seam_of(tail, chunk, pattern.len());
-    let bytes = seam.bytes;
-    let len = seam.len;
-    let over_tail = Stretch {
-        first: 0,
-        end: in_tail,
-        base,
-        at: 0,
-    };
-    let first = backward_stretch(pattern, k, method, tables, &bytes[..len], over_tail, list);
-    // The last scan in the tail may pass over window starts of the chunk.
-    let passed = first.next - in_tail;
-    if in_chunk <= passed {
-        return Done {
-            found: first.at,
-            looks: first.looks,
-        };
-    }
-    let over_chunk = Stretch {
-        first: passed,
-        end: in_chunk,
-        base: base + tail.len(),
-        at: first.at,
-    };
+    let first = backward_stretch(pattern, k, method, tables, seam, split.over_tail, list);
+    let mut over_chunk = split.over_chunk;
+    // The last scan in the tail may pass over window starts of the chunk, all of them at most.
+    over_chunk.first = least(first.next - split.over_tail.end, over_chunk.end);
+    over_chunk.at = first.at;
     let second = backward_stretch(pattern, k, method, tables, chunk, over_chunk, list);
     Done {
         found: second.at,
@@ -361,11 +285,35 @@ pub fn search_pieces(
     requires { ⌜ Searchable (now pattern) k method (now tail) (now chunk) base (now list) ⌝ }
     ensures { λ r. ⌜ Found (steps (now (pattern .entry)) k method (now (tail .entry) ++ now (chunk .entry))) base (now (list .entry)) (now (list .exit)) r ⌝ }
 {
+    let split = split_starts(pattern.len(), tail.len(), chunk.len(), base);
+    // Without a window no tables are made.
+    if split.over_tail.end + split.over_chunk.end == 0 {
+        return Done { found: 0, looks: 0 };
+    }
+    let seam = seam_of(tail, chunk, pattern.len());
+    let bytes = seam.bytes;
+    let len = seam.len;
+    search_split(pattern, k, method, &bytes[..len], chunk, split, list)
+}
+
+// The steps of a method over the seam and then the chunk.
+fn search_split(
+    pattern: &[u8],
+    k: u8,
+    method: u8,
+    seam: &[u8],
+    chunk: &[u8],
+    split: Split,
+    list: &mut [u32],
+) -> Done
+    requires { ⌜ (Prepared (now pattern) (now seam) (now chunk) split (now list)) × (k < length (now pattern)) × (given (methodTests (now pattern) k method) ≡ 0) ⌝ }
+    ensures { λ r. ⌜ Found (steps (now (pattern .entry)) k method (joined split (now (seam .entry)) (now (chunk .entry)))) (split .«over_tail» .base) (now (list .entry)) (now (list .exit)) r ⌝ }
+{
     if method == 1 {
-        return count_pieces(pattern, k as usize, tail, chunk, base, list);
+        return count_pieces(pattern, k as usize, seam, chunk, split, list);
     }
     if method == 5 {
-        return hcam_pieces(pattern, tail, chunk, base, list);
+        return hcam_pieces(pattern, seam, chunk, split, list);
     }
-    backward_pieces(pattern, k as usize, method, tail, chunk, base, list)
+    backward_pieces(pattern, k as usize, method, seam, chunk, split, list)
 }

@@ -1,7 +1,6 @@
 -- `pieces::backward_stretch` meets its contract: each method's loop is asked what it asks, and yields its own scan.
 use mathlib.Core.Path.{_≡_, refl, sym, ap, _∙_}
 use native.Mathlib.Omega.{arith}
-use borrow.Author.Needs.{needs}
 use Rattle.jumbled.specs.Fields.{layoutOf}
 use Rattle.packed.proofs.Widths.{layout-2, layout-3}
 use Rattle.pieces.proofs.Scans.{scan-2, scan-3, scan-4, same-fields}
@@ -14,7 +13,7 @@ bam-requires c κs =
     same-fields (layout-2 (start .args .k) (start .args .method) (c .before .if1 .taken) ∙ sym (layout-2 0 2 refl)) (start .pre .0)
 
 same-length : tie.Need-same-length
-same-length c = search needs
+same-length c = c .before .before .bam .kept .1 .1 .1 .1 .0
 
 returns : tie.Need-returns
 returns c =
@@ -27,7 +26,7 @@ bam2-requires c κs =
     same-fields (layout-3 (start .args .k) (start .args .method) (c .before .if2 .taken) ∙ sym (layout-3 0 3 refl)) (start .pre .0)
 
 same-length-2 : tie.Need-same-length-2
-same-length-2 c = search needs
+same-length-2 c = c .before .before .bam2 .kept .1 .1 .1 .1 .0
 
 returns-2 : tie.Need-returns-2
 returns-2 c =
@@ -41,7 +40,7 @@ abam-requires c κs =
     same-fields (ap (layoutOf (start .args .k)) four) (start .pre .0)
 
 same-length-3 : tie.Need-same-length-3
-same-length-3 c = search needs
+same-length-3 c = c .before .before .abam .kept .1 .1 .1 .1 .1 .0
 
 returns-3 : tie.Need-returns-3
 returns-3 c =

@@ -1,158 +1,82 @@
 -- `pieces::count_pieces` meets its contract.
-use mathlib.Core.Path.{_≡_, sym, _∙_}
-use mathlib.Core.List.{List, _++_}
-use Prim.Native.Nat.{ℕ, _+_, _≤_, _<_}
-use native.Mathlib.Omega.{arith}
-use lib.ListN.{length, length-take}
-use Rattle.listing.specs.Loops.{Listed}
-use Rattle.jumbled.specs.Match.{starts}
+use mathlib.Core.Path.{_∙_}
+use mathlib.Core.List.{List}
+use Prim.Native.Nat.{ℕ}
+use Rattle.jumbled.specs.Scan.{Judged}
 use Rattle.jumbled.specs.Steps.{countJudged}
-use Rattle.pieces.proofs.Joins.{found-none, forward-none}
-use Rattle.pieces.proofs.Forwards.{from-first, lead-seam, seamed, pieces-one, pieces-two, next-fitting, looks-fit}
-use Rattle.pieces.proofs.Stretches.{all-starts, full, startable}
-use borrow.Author.Needs.{needs}
+use Rattle.pieces.proofs.Prepared.{startable}
+use Rattle.pieces.proofs.Forwards.{count-few, lead-on, forward-one, forward-two, forward-fitting, forward-looks}
 use Rattle.pieces.proofs.count_pieces.Statement.{statement}
 use Rattle.pieces.proofs.count_pieces.Tie as tie
 
--- the arguments, where the window starts are split
-abbrev at-start : tie.After-split-starts → tie.Start
-at-start s = s .before .before .before .before .before
+-- the arguments, where the seam was searched
+abbrev start-of : tie.After-count-seam → tie.Start
+start-of s = s .before .before .before .before .before .before .before
 
-joined-starts : (s : tie.After-split-starts)
-    → s .split-starts .result .«in_tail» + s .split-starts .result .«in_chunk»
-    ≡ starts (length (at-start s .args .pattern .now)) (at-start s .args .tail .now ++ at-start s .args .chunk .now)
-joined-starts s =
-    let args = at-start s .args in
-    all-starts (args .pattern .now) (args .tail .now) (args .chunk .now) (args .base) (args .list .now) (at-start s .pre) (s .split-starts .result)
-    (s .split-starts .ensures)
+-- the seam's search, where the chunk is to be searched
+abbrev seam-of : tie.After-count-windows-arg → tie.After-count-seam
+seam-of c = c .before .before .before .before .before .before
 
-few : (P : List ℕ) (k : ℕ) (W : List ℕ) → countJudged P k W .verification ≤ 64
-unfolding countJudged
-few P k W = omega arith
-
-some-starts : (c : tie.Else1) → 0 < c .before .split-starts .result .«in_tail» + c .before .split-starts .result .«in_chunk»
-some-starts c = let none = c .if1 .left in omega arith
-
-some-chunk : (c : tie.Else2) → 0 < c .before .before .before .before .before .before .before .before .before .before .split-starts .result .«in_chunk»
-some-chunk c = let none = c .if2 .left in omega arith
-
--- what the seam's windows list
-seam-listed : (s : tie.After-count-seam)
-    → let at : tie.After-split-starts = s .before .before .before .before .before .before .before in
-    let args = at-start at .args in
-    Listed (seamed (countJudged (args .pattern .now) (args .k)) (args .pattern .now) (args .tail .now) (args .chunk .now) (at .split-starts .result .«in_tail»))
-    (from-first (at .split-starts .result .«in_tail») (args .base) 0) (args .list .now) (s .count-seam .last .1 .1 .1 .1 .1 .0) (s .count-seam .result .at)
-    (s .count-seam .result .looks)
-seam-listed s = rw (s .before .before .before .before .seam-of .ensures .0) at (s .count-seam .ensures .listed)
-
-split-starts-requires : tie.Need-split-starts-requires
-split-starts-requires c κs = search needs
-
-add-if1 : tie.Need-add-if1
-add-if1 c = search needs
-
-returns : tie.Need-returns
-returns c = found-none _ _ _ (forward-none _ _ _ _ _ (sym (joined-starts (c .before)) ∙ c .if1 .taken))
+abbrev judged : tie.Start → List ℕ → Judged
+judged start = countJudged (start .args .pattern .now) (start .args .k)
 
 counts-requires : tie.Need-counts-requires
-counts-requires c κs = search needs
-
-seam-of-requires : tie.Need-seam-of-requires
-seam-of-requires c κs = search needs
-
-array-share-prefix-bytes : tie.Need-array-share-prefix-bytes
-array-share-prefix-bytes c =
-    let long : length (c .before .seam-of .result .bytes) ≡ 128 = search needs in
-    omega (arith, c .before .seam-of .ensures .1)
-
-slice-aggregate-count-seam : tie.Need-slice-aggregate-count-seam
-slice-aggregate-count-seam c =
-    let seam = c .before .before .seam-of .result in
-    let long : length (seam .bytes) ≡ 128 = search needs in
-    omega (arith, length-take (seam .len) (seam .bytes), c .before .before .seam-of .ensures .1)
+counts-requires c κs = tt
 
 count-seam-requires : tie.Need-count-seam-requires
-count-seam-requires c κs =
-    let at : tie.After-split-starts = c .before .before .before .before .before .before in
-    let args = at-start at .args in (
-      rw (c .before .before .before .seam-of .ensures .0)
-          (startable (args .pattern .now) (args .tail .now) (args .chunk .now) (args .base) (args .list .now) (at-start at .pre) (at .split-starts .result)
-          (at .split-starts .ensures) (some-starts (c .before .before .before .before .before))),
-      c .before .before .before .before .counts .ensures,
-    )
+count-seam-requires c κs = (startable (c .before .before .before .before .before .before .pre), c .before .counts .ensures)
 
 same-length : tie.Need-same-length
-same-length c = search needs
+same-length c = c .before .before .before .before .count-seam .kept .1 .1 .1 .1 .1 .0
 
-returns-2 : tie.Need-returns-2
-returns-2 c =
-    let s : tie.After-count-seam = c .before .before .before in
-    let at : tie.After-split-starts = s .before .before .before .before .before .before .before in
-    let args = at-start at .args in
-    pieces-one (countJudged (args .pattern .now) (args .k)) (few (args .pattern .now) (args .k)) (args .pattern .now) (args .tail .now) (args .chunk .now) (args .base)
-    (args .list .now) (at-start at .pre) (at .split-starts .result) (at .split-starts .ensures) (some-starts (s .before .before .before .before .before .before)) (c .if2 .taken)
-    (seam-listed s)
-
-add-t19 : tie.Need-add-t19
-add-t19 c = search needs
+returns : tie.Need-returns
+returns c =
+    let s : tie.After-count-seam = c .before .before .before .before in
+    let start = start-of s in
+    forward-one (start .pre) (judged start) (s .count-seam .ensures .listed) (c .if1 .taken)
 
 count-windows-requires : tie.Need-count-windows-requires
 count-windows-requires c κs =
-    let s : tie.After-count-seam = c .before .before .before .before in
-    let at : tie.After-split-starts = s .before .before .before .before .before .before .before in
-    let args = at-start at .args in
+    let s : tie.After-count-seam = seam-of c in
+    let start = start-of s in
     record {
-      fitting =
-          next-fitting (countJudged (args .pattern .now) (args .k)) (few (args .pattern .now) (args .k)) (args .pattern .now) (args .tail .now) (args .chunk .now) (args .base)
-          (args .list .now) (at-start at .pre) (at .split-starts .result) (at .split-starts .ensures) (seam-listed s);
-      pattern-counts = s .before .before .before .before .before .counts .ensures;
-      state =
-          rw
-          (lead-seam (length (args .pattern .now)) (args .tail .now) (args .chunk .now) (at .split-starts .result .«in_tail»)
-          (full (args .pattern .now) (args .tail .now) (args .chunk .now) (args .base) (args .list .now) (at-start at .pre) (at .split-starts .result) (at .split-starts .ensures)
-          (some-chunk (c .before))))
-          at
-          (rw (s .before .before .before .before .seam-of .ensures .0) at (s .count-seam .ensures .state));
+      fitting = forward-fitting (start .pre) (judged start) (s .count-seam .ensures .listed);
+      pattern-counts = s .before .before .counts .ensures;
+      state = rw (lead-on (start .pre) (c .before .before .if1 .left)) at (s .count-seam .ensures .state);
     }
 
-add-t18 : tie.Need-add-t18
-add-t18 c =
-    let s : tie.After-count-seam = c .before .before .before .before .before .before .before .before .before in
-    let at : tie.After-split-starts = s .before .before .before .before .before .before .before in
-    let args = at-start at .args in
-    let fit =
-    looks-fit (countJudged (args .pattern .now) (args .k)) (few (args .pattern .now) (args .k)) (args .pattern .now) (args .tail .now) (args .chunk .now) (args .base)
-    (args .list .now) (at-start at .pre) (at .split-starts .result) (at .split-starts .ensures) (seam-listed s) (c .before .before .before .before .count-windows .ensures .listed) in
-    omega arith
+add-t16 : tie.Need-add-t16
+add-t16 c =
+    let windows : tie.After-count-windows = c .before .before .before .before in
+    let s : tie.After-count-seam = seam-of (windows .before) in
+    let start = start-of s in
+    record {
+      fits =
+          forward-looks (start .pre) (judged start) (s .count-seam .ensures .listed) (windows .count-windows .ensures .listed)
+          (count-few (start .args .pattern .now) (start .args .k));
+    }
 
 same-length-2 : tie.Need-same-length-2
-same-length-2 c = search needs
+same-length-2 c =
+    let windows : tie.After-count-windows = c .before .before .before .before in
+    windows .count-windows .kept .1 .1 .1 .1 .1 .1 .0 ∙ seam-of (windows .before) .count-seam .kept .1 .1 .1 .1 .1 .0
 
-returns-3 : tie.Need-returns-3
-returns-3 c =
-    let s : tie.After-count-seam = c .before .before .before .before .before .before .before .before .before in
-    let at : tie.After-split-starts = s .before .before .before .before .before .before .before in
-    let args = at-start at .args in
-    pieces-two (countJudged (args .pattern .now) (args .k)) (few (args .pattern .now) (args .k)) (args .pattern .now) (args .tail .now) (args .chunk .now) (args .base)
-    (args .list .now) (at-start at .pre) (at .split-starts .result) (at .split-starts .ensures) (seam-listed s) (some-starts (s .before .before .before .before .before .before))
-    (c .before .before .before .before .count-windows .ensures .listed)
+returns-2 : tie.Need-returns-2
+returns-2 c =
+    let windows : tie.After-count-windows = c .before .before .before .before in
+    let s : tie.After-count-seam = seam-of (windows .before) in
+    let start = start-of s in
+    forward-two (start .pre) (judged start) (s .count-seam .ensures .listed) (windows .count-windows .ensures .listed)
 
 pub count-pieces-spec : {M : Type 1} → statement M
 count-pieces-spec =
     tie.close
     (tie.spec
-    split-starts-requires
-    add-if1
-    returns
     counts-requires
-    seam-of-requires
-    array-share-prefix-bytes
-    slice-aggregate-count-seam
     count-seam-requires
     same-length
-    returns-2
-    add-t19
+    returns
     count-windows-requires
-    add-t18
+    add-t16
     same-length-2
-    returns-3)
+    returns-2)

@@ -1,6 +1,4 @@
 -- `pieces::hcam_seam` meets its contract.
-use native.Mathlib.Omega.{arith}
-use borrow.Author.Needs.{needs}
 use Rattle.jumbled.specs.Steps.{hcamJudged}
 use Rattle.pieces.proofs.Forwards.{hcam-few}
 use Rattle.pieces.proofs.Seams.{primed-listed, looks-fit}
@@ -8,7 +6,9 @@ use Rattle.pieces.proofs.hcam_seam.Statement.{statement}
 use Rattle.pieces.proofs.hcam_seam.Tie as tie
 
 hcam-start-requires : tie.Need-hcam-start-requires
-hcam-start-requires c κs = search needs
+hcam-start-requires c κs =
+    let start = c .before .before .before in
+    record { some = start .pre .startable .fitting .some; tabled = start .pre .tabled; enough = start .pre .startable .enough }
 
 hcam-windows-requires : tie.Need-hcam-windows-requires
 hcam-windows-requires c κs =
@@ -21,17 +21,19 @@ hcam-windows-requires c κs =
       state = rw (start .pre .startable .from-first) (c .before .hcam-start .ensures .state);
     }
 
-add-t12 : tie.Need-add-t12
-add-t12 c =
+add-windows : tie.Need-add-windows
+add-windows c =
     let start = c .before .before .before .before .before .before .before .before .before .before in
     let first = c .before .before .before .before .before .before .hcam-start in
     let windows = c .before .before .before .before .hcam-windows in
-    let fit = looks-fit (hcamJudged (start .args .pattern .now)) (start .args .pattern .now) (start .args .seam .now) (start .args .stretch) (start .args .list .now) (start .pre .startable)
-    (first .result .looks) (windows .result .looks) (hcam-few (start .args .pattern .now) (start .pre .startable .fitting .short)) (first .ensures .inspected) (windows .ensures .listed) in
-    omega arith
+    record {
+      fits =
+          looks-fit (start .pre .startable) (hcamJudged (start .args .pattern .now)) (hcam-few (start .args .pattern .now) (start .pre .startable .fitting .short))
+          (first .ensures .inspected) (windows .ensures .listed);
+    }
 
 same-length : tie.Need-same-length
-same-length c = search needs
+same-length c = c .before .before .before .before .hcam-windows .kept .1 .1 .1 .1 .1 .1 .1 .0
 
 returns : tie.Need-returns
 returns c =
@@ -39,11 +41,10 @@ returns c =
     let first = c .before .before .before .before .before .before .hcam-start in
     let windows = c .before .before .before .before .hcam-windows in
     record {
-      listed = primed-listed (hcamJudged (start .args .pattern .now)) (start .args .pattern .now) (start .args .seam .now) (start .args .stretch) (start .args .list .now) (start .pre .startable)
-          (first .ensures .inspected) (windows .ensures .listed);
+      listed = primed-listed (start .pre .startable) (hcamJudged (start .args .pattern .now)) (first .ensures .inspected) (windows .ensures .listed);
       state = windows .ensures .state;
     }
 
 pub hcam-seam-spec : {M : Type 1} → statement M
 hcam-seam-spec =
-    tie.close (tie.spec hcam-start-requires hcam-windows-requires add-t12 same-length returns)
+    tie.close (tie.spec hcam-start-requires hcam-windows-requires add-windows same-length returns)

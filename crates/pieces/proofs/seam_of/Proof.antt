@@ -8,35 +8,31 @@ use native.Mathlib.Omega.{arith}
 use lib.ListN.{length, take}
 use lib.Seq.{take-all, take-length}
 use Rattle.jumbled.proofs.Sums.{below-or-not}
-use borrow.Author.Needs.{needs}
 use Rattle.pieces.proofs.seam_of.Statement.{statement}
 use Rattle.pieces.proofs.seam_of.Tie as tie
 
-sub-reach : tie.Need-sub-reach
-sub-reach c = search needs
+sub-least : tie.Need-sub-least
+sub-least c = omega arith
+
+least-requires : tie.Need-least-requires
+least-requires c κs = tt
 
 with-requires : tie.Need-with-requires
-with-requires c κs = search needs
+with-requires c κs = (omega arith, omega arith)
 
 -- as many bytes of the chunk as there are, up to m - 1
-counted : (c : tie.Joined1) → c .if1 .count ≡ min (length (c .before .before .before .args .chunk .now)) (c .before .before .before .args .m - 1)
-counted c = ⊎-elim (λ w. omega arith) (λ w. omega arith) (c .if1 .came)
-
 reach : (n : ℕ) (l : List ℕ) → take (min (length l) n) l ≡ take n l
 reach n l =
     ⊎-elim (λ (h : length l < n). ap (λ (k : ℕ). take k l) (min-eq-left (le-of-lt h)) ∙ take-length l ∙ sym (take-all n l (le-of-lt h)))
     (λ (h : n ≤ length l). ap (λ (k : ℕ). take k l) (min-eq-right h)) (below-or-not (length l) n)
 
 with-requires-2 : tie.Need-with-requires-2
-with-requires-2 c κs =
-    let few = counted (c .before) in
-    let first = c .with .ensures .1 in
-    omega arith
+with-requires-2 c κs = omega (arith, c .before .least .ensures, c .with .ensures .1)
 
 returns : tie.Need-returns
 returns c =
     let start = c .before .before .before .before .before in
-    let few = counted (c .before .before) in
+    let few = c .before .before .least .ensures in
     let first = c .before .with .ensures in
     let second = c .with2 .ensures in (
       second .0
@@ -46,4 +42,4 @@ returns c =
     )
 
 pub seam-of-spec : {M : Type 1} → statement M
-seam-of-spec = tie.close (tie.spec sub-reach with-requires with-requires-2 returns)
+seam-of-spec = tie.close (tie.spec sub-least least-requires with-requires with-requires-2 returns)

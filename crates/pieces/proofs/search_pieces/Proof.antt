@@ -1,73 +1,80 @@
--- `pieces::search_pieces` meets its contract: each method's function yields its steps.
-use mathlib.Core.List.{_++_}
+-- `pieces::search_pieces` meets its contract: the tail and the chunk are made ready, and the method's function searches them.
+use mathlib.Core.Path.{_≡_, sym}
 use native.Mathlib.Omega.{arith}
-use Rattle.jumbled.proofs.Admission.{method-taken}
-use Rattle.pieces.proofs.Steps.{steps-1, steps-5, steps-backward}
+use Prim.Native.Nat.{_≤_}
+use lib.ListN.{length}
+use lib.Seq.{length-take-le}
 use borrow.Author.Needs.{needs}
+use Rattle.jumbled.specs.Steps.{steps}
+use Rattle.pieces.proofs.Prepared.{found-none, parted-starts, prepared, found-joined}
+use Rattle.pieces.proofs.Steps.{steps-none}
 use Rattle.pieces.proofs.search_pieces.Statement.{statement}
 use Rattle.pieces.proofs.search_pieces.Tie as tie
 
-count-pieces-requires : tie.Need-count-pieces-requires
-count-pieces-requires c κs = search needs
+split-starts-requires : tie.Need-split-starts-requires
+split-starts-requires c κs = c .before .before .before .before .pre .joinable .numbered
 
-same-length : tie.Need-same-length
-same-length c = search needs
+add-if1 : tie.Need-add-if1
+add-if1 c = record { fits = omega arith }
 
 returns : tie.Need-returns
 returns c =
-    let args = c .before .before .before .before .before .before .before .before .before .args in
-    rw (steps-1 (args .pattern .now) (args .k) (args .method) (args .tail .now ++ args .chunk .now) (c .before .before .before .before .if1 .taken)) (c .before .before .count-pieces .ensures)
+    let s : tie.After-split-starts = c .before .before in
+    let args = s .before .before .before .before .before .args in
+    let none = c .if1 .taken in
+    found-none _ _ _ (steps-none _ _ _ _ (omega (arith, parted-starts (args .tail .now) (args .chunk .now) (s .split-starts .ensures))))
 
-hcam-pieces-requires : tie.Need-hcam-pieces-requires
-hcam-pieces-requires c κs = search needs
+seam-of-requires : tie.Need-seam-of-requires
+seam-of-requires c κs =
+    let joinable = c .before .before .before .before .before .before .before .pre .joinable in
+    (joinable .tail-short, joinable .short)
 
-same-length-2 : tie.Need-same-length-2
-same-length-2 c = search needs
+-- the seam's bytes are there
+seam-long : (s : tie.After-seam-of) → s .seam-of .result .len ≤ length (s .seam-of .result .bytes)
+seam-long s =
+    let long : length (s .seam-of .result .bytes) ≡ 128 = search needs in
+    omega (arith, s .seam-of .ensures .1)
+
+array-share-prefix-bytes : tie.Need-array-share-prefix-bytes
+array-share-prefix-bytes c = seam-long (c .before)
+
+slice-aggregate-search-split : tie.Need-slice-aggregate-search-split
+slice-aggregate-search-split c =
+    let seam = c .before .before .seam-of .result in
+    sym (length-take-le (seam .len) (seam .bytes) (seam-long (c .before .before)))
+
+search-split-requires : tie.Need-search-split-requires
+search-split-requires c κs =
+    let seam : tie.After-seam-of = c .before .before .before in
+    let s : tie.After-split-starts = seam .before .before .before in
+    let start = s .before .before .before .before .before in
+    let args = start .args in
+    let some = seam .before .if1 .left in (
+      prepared (args .pattern .now) (args .tail .now) (args .chunk .now) (s .split-starts .ensures) (seam .seam-of .ensures .0) (start .pre .joinable) (omega (arith, some)),
+      start .pre .within,
+      start .pre .taken,
+    )
+
+same-length : tie.Need-same-length
+same-length c = c .before .before .search-split .kept .1 .1 .1 .1 .1 .1 .0
 
 returns-2 : tie.Need-returns-2
 returns-2 c =
-    let args = c .before .before .before .before .before .before .before .before .before .before .args in
-    rw (steps-5 (args .pattern .now) (args .k) (args .method) (args .tail .now ++ args .chunk .now) (c .before .before .before .before .if2 .taken)) (c .before .before .hcam-pieces .ensures)
-
-backward-pieces-requires : tie.Need-backward-pieces-requires
-backward-pieces-requires c κs =
-    let start = c .before .before .before .before .before .before .before in
-    let taken = method-taken (start .args .pattern .now) (start .args .k) (start .args .method) (start .pre .taken) in
-    let not-1 = c .before .before .if1 .left in
-    let not-5 = c .before .if2 .left in (
-      start .pre .joinable,
-      record {
-        short = start .pre .joinable .short;
-        tolerance = omega (arith, start .pre .within, start .pre .joinable .short);
-        from = omega (arith, taken .least);
-        to = omega (arith, taken .most);
-        fits = taken .narrow;
-      },
-    )
-
-same-length-3 : tie.Need-same-length-3
-same-length-3 c = search needs
-
-returns-3 : tie.Need-returns-3
-returns-3 c =
-    let start = c .before .before .before .before .before .before .before .before .before .before in
-    let args = start .args in
-    let taken = method-taken (args .pattern .now) (args .k) (args .method) (start .pre .taken) in
-    let not-1 = c .before .before .before .before .before .if1 .left in
-    let not-5 = c .before .before .before .before .if2 .left in
-    rw (steps-backward (args .pattern .now) (args .k) (args .method) (args .tail .now ++ args .chunk .now) (omega (arith, taken .least)) (omega (arith, taken .most)))
-    (c .before .before .backward-pieces .ensures)
+    let seam : tie.After-seam-of = c .before .before .before .before .before .before in
+    let s : tie.After-split-starts = seam .before .before .before in
+    let args = s .before .before .before .before .before .args in
+    found-joined (args .pattern .now) (args .tail .now) (args .chunk .now) (s .split-starts .ensures) (seam .seam-of .ensures .0) (steps (args .pattern .now) (args .k) (args .method)) (c .before .before .search-split .ensures)
 
 pub search-pieces-spec : {M : Type 1} → statement M
 search-pieces-spec =
     tie.close
     (tie.spec
-    count-pieces-requires
-    same-length
+    split-starts-requires
+    add-if1
     returns
-    hcam-pieces-requires
-    same-length-2
-    returns-2
-    backward-pieces-requires
-    same-length-3
-    returns-3)
+    seam-of-requires
+    array-share-prefix-bytes
+    slice-aggregate-search-split
+    search-split-requires
+    same-length
+    returns-2)

@@ -16,6 +16,9 @@ Inv-loop source count bytes₀ len i₀ bytes i = (i ≤ count) × (bytes ≡ pa
 abbrev μ-loop : tie.MeasureT-loop
 μ-loop source count bytes₀ len i₀ bytes i = count - i
 
+long : (start : tie.Start Inv-loop μ-loop) → length (start .args .self .bytes) ≡ 128
+long start = search needs
+
 loop-holds : tie.Need-loop-holds Inv-loop μ-loop
 loop-holds c = (omega arith, paste-zero (c .before .args .self .bytes) (c .before .args .self .len) (c .before .args .source .now))
 
@@ -38,7 +41,7 @@ loop-again : tie.Need-loop-again Inv-loop μ-loop
 loop-again c =
     let start = c .before .before .before .before in
     let loop = c .before .before .loop in
-    let long : length (start .args .self .bytes) ≡ 128 = search needs in (
+    let bytes = long start in (
       omega arith,
       ap (λ (l : List ℕ). set l (start .args .self .len + loop .i) (getD (start .args .source .now) (loop .i) 0)) (loop .inv .1)
           ∙ paste-suc (start .args .self .bytes) (start .args .self .len) (start .args .source .now) (loop .i) 0 (omega arith) (omega arith)
@@ -52,7 +55,7 @@ returns : tie.Need-returns Inv-loop μ-loop
 returns c =
     let start = c .before .before .before in
     let loop = c .before .loop in
-    let long : length (start .args .self .bytes) ≡ 128 = search needs in
+    let bytes = long start in
     let all : loop .i ≡ start .args .count = omega arith in (
       ap (take (start .args .self .len + start .args .count)) (loop .inv .1 ∙ ap (paste (start .args .self .bytes) (start .args .self .len) (start .args .source .now)) all)
           ∙ take-paste (start .args .self .bytes) (start .args .self .len) (start .args .source .now) (start .args .count) (omega arith) (omega arith),
