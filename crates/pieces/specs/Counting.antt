@@ -6,8 +6,8 @@ use Rattle.jumbled.specs.Scan.{forward}
 use Rattle.jumbled.specs.Steps.{countJudged}
 use Rattle.listing.specs.declared.Stretch.{Stretch}
 use Rattle.listing.specs.Loops.{Listed}
-use Rattle.forward.specs.declared.Counted.{Counted}
-use Rattle.forward.specs.Counting.{Counting}
+use Rattle.count.specs.declared.Counted.{Counted}
+use Rattle.count.specs.Counting.{Counting}
 use Rattle.forward.specs.Windows.{lead}
 use Rattle.pieces.specs.Joined.{primed}
 

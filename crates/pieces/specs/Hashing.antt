@@ -11,7 +11,7 @@ use Rattle.heap.specs.declared.HeapTable.{HeapTable}
 use Rattle.heap.specs.Table.{HeapTabled}
 use Rattle.listing.specs.declared.Stretch.{Stretch}
 use Rattle.listing.specs.Loops.{Listed}
-use Rattle.forward.specs.declared.Hashed.{Hashed}
+use Rattle.hcam.specs.declared.Hashed.{Hashed}
 use Rattle.forward.specs.Windows.{lead}
 use Rattle.pieces.specs.Joined.{primed, Startable}
 

@@ -15,8 +15,8 @@ ghost use Rattle.backward.specs.Searched.{Searchable as Scannable, Searched};
 ghost use Rattle.packed.specs.Word.{Packable};
 ghost use Rattle.pieces.specs.Scans.{scanOf};
 use backward::Reached;
-use forward::Counted;
-use forward::Hashed;
+use count::Counted;
+use hcam::Hashed;
 use heap::HeapTable;
 use listing::Stretch;
 use packed::Tables;
@@ -119,8 +119,8 @@ fn count_seam(
     requires { ⌜ (Startable (now pattern) (now seam) stretch (now list)) × («pattern_counts» ≡ parikh (now pattern)) ⌝ }
     ensures { λ r. ⌜ CountedSeam (now (pattern .entry)) k (now (seam .entry)) stretch (now (list .entry)) (now (list .exit)) r ⌝ }
 {
-    let start = forward::count_start(pattern, pattern_counts, seam);
-    let mut windows = forward::count_windows(
+    let start = count::count_start(pattern, pattern_counts, seam);
+    let mut windows = count::count_windows(
         pattern,
         pattern_counts,
         k,
@@ -155,7 +155,7 @@ fn count_pieces(
     }
     let mut over_chunk = split.over_chunk;
     over_chunk.at = first.at;
-    let second = forward::count_windows(pattern, counts, k, chunk, first.sliding, over_chunk, list);
+    let second = count::count_windows(pattern, counts, k, chunk, first.sliding, over_chunk, list);
     Done {
         found: second.at,
         looks: first.looks + second.looks,
@@ -175,8 +175,8 @@ fn hcam_seam(
     requires { ⌜ HashableSeam (now pattern) «pattern_counts» table target (now seam) stretch (now list) ⌝ }
     ensures { λ r. ⌜ HashedSeam (now (pattern .entry)) (now (seam .entry)) stretch (now (list .entry)) (now (list .exit)) r ⌝ }
 {
-    let start = forward::hcam_start(pattern, table, seam);
-    let mut windows = forward::hcam_windows(
+    let start = hcam::hcam_start(pattern, table, seam);
+    let mut windows = hcam::hcam_windows(
         pattern,
         pattern_counts,
         table,
@@ -198,7 +198,7 @@ fn hcam_pieces(pattern: &[u8], seam: &[u8], chunk: &[u8], split: Split, list: &m
     let counts = parikh::counts(pattern);
     let table = heap::heap_table(pattern);
     let values = table.values;
-    let target = forward::hcam_sum(values, pattern);
+    let target = hcam::hcam_sum(values, pattern);
     let first = hcam_seam(pattern, counts, table, target, seam, split.over_tail, list);
     if split.over_chunk.end == 0 {
         return Done {
@@ -208,7 +208,7 @@ fn hcam_pieces(pattern: &[u8], seam: &[u8], chunk: &[u8], split: Split, list: &m
     }
     let mut over_chunk = split.over_chunk;
     over_chunk.at = first.at;
-    let second = forward::hcam_windows(
+    let second = hcam::hcam_windows(
         pattern,
         counts,
         table,
@@ -238,12 +238,12 @@ fn backward_stretch(
     ensures { λ r. ⌜ Searched (scanOf (now (pattern .entry)) k method) (length (now (pattern .entry))) (now (text .entry)) stretch (now (list .entry)) (now (list .exit)) r ⌝ }
 {
     if method == 2 {
-        return backward::bam(pattern, tables, text, stretch, list);
+        return bam::bam(pattern, tables, text, stretch, list);
     }
     if method == 3 {
-        return backward::bam2(pattern, tables, text, stretch, list);
+        return bam2::bam2(pattern, tables, text, stretch, list);
     }
-    backward::abam(pattern, k, tables, text, stretch, list)
+    abam::abam(pattern, k, tables, text, stretch, list)
 }
 
 // Methods 2, 3 and 4 over the seam and then the chunk.
