@@ -6,8 +6,9 @@ use Rattle.jumbled.specs.Scan.{scan, singles, backward}
 use Rattle.jumbled.specs.Fields.{first, lg, fieldOf, layoutOf, widthOf, bits, startOf, valueOf, topSet, some, overflows}
 use Rattle.jumbled.specs.Steps.{bamScan, steps}
 use Rattle.jumbled.specs.Refusals.{given, methodTests, patternTests, programTests}
-use Rattle.report.specs.Request.{has, before, after, digit, methodForm, toleranceForm, spelled, firstLine, methodField, toleranceField, patternField, goodLine, methodOf, toleranceOf, patternOf, lessNewline, textOf, tooLong, badLine, requestRefusal}
-use Rattle.report.specs.Output.{ascii, digits, decimal, numberLine, header, positionLines, counts, outputText, refusalText, output}
+use Rattle.request.specs.Request.{has, before, after, digit, methodForm, toleranceForm, spelled, firstLine, methodField, toleranceField, patternField, goodLine, methodOf, toleranceOf, patternOf, lessNewline, textOf, tooLong, badLine}
+use Rattle.lines.specs.Lines.{ascii, digits, decimal, numberLine, header, positionLines, counts, outputText, refusalText}
+use Rattle.report.specs.Output.{requestRefusal, output}
 
 printed : output (ascii "2 0 abc\nabcxxxabc\n") ≡ ascii "mix abc method 2 k 0\n0\n6\nfound 2 looks 9\n"
 unfolding cc sum excess matches select positions scan singles backward first lg fieldOf layoutOf widthOf bits startOf valueOf topSet some overflows bamScan steps given methodTests patternTests programTests has before after digit methodForm toleranceForm spelled firstLine methodField toleranceField patternField goodLine methodOf toleranceOf patternOf lessNewline textOf tooLong badLine requestRefusal ascii digits decimal numberLine header positionLines counts outputText refusalText output

@@ -20,7 +20,8 @@ use Rattle.search.specs.declared.Answer.the-variants.{Listed, Refused}
 use Rattle.search.specs.Answers.{unlessRefused}
 use Rattle.search.specs.Whole.{wholeNumber, Whole}
 use Rattle.search.proofs.Wholes.{number-positive, on-accepted, whole-number}
-use Rattle.report.specs.Output.{outputText, refusalText, answerText}
+use Rattle.lines.specs.Lines.{outputText, refusalText}
+use Rattle.report.specs.Output.{answerText}
 use Rattle.report.proofs.Room.{positions-few, found-room}
 
 pub number-small : (refusal : Refusal) → numberOf refusal < 100

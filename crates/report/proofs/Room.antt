@@ -5,7 +5,7 @@ use mathlib.Core.List.{List, _∷_}
 use mathlib.Core.Logic.{⊎-elim}
 use Prim.Native.Nat.{ℕ, zero, suc, _+_, _-_, _≤_, _<_}
 use native.Mathlib.Omega.{arith}
-use lib.ListN.{length, getD, take, length-drop}
+use lib.ListN.{length, getD, take}
 use lib.Seq.{length-take-le, take-all}
 use borrow.Author.Tests.{lt-ltb, ltb-false}
 use Rattle.jumbled.specs.Match.{select, positions}
@@ -14,13 +14,12 @@ use Rattle.jumbled.specs.Refusals.{programTests}
 use Rattle.jumbled.proofs.Admission.{given-none, Admitted, admitted}
 use Rattle.jumbled.proofs.Sums.{below-or-not}
 use Rattle.listing.proofs.Placing.{length-placed}
-use Rattle.report.specs.Request.{after, before, methodOf, toleranceOf, patternOf, textOf, tooLong, badLine, requestRefusal}
-use Rattle.report.specs.Output.{outputText, refusalText, output, Reported}
-use Rattle.report.specs.Parsing.{part}
-use Rattle.report.proofs.Cuts.{after-drop}
-use Rattle.report.proofs.Texts.{less-shorter}
-use Rattle.report.proofs.Lines.{output-most, refusal-most}
-use Rattle.report.proofs.Answers.{Requested, refusal-long, output-given, output-found, output-refused, refusal-below}
+use Rattle.request.specs.Request.{methodOf, toleranceOf, patternOf, textOf, tooLong, badLine}
+use Rattle.request.proofs.Answered.{text-shorter}
+use Rattle.lines.specs.Lines.{outputText, refusalText}
+use Rattle.lines.proofs.Lines.{output-most, refusal-most}
+use Rattle.report.specs.Output.{requestRefusal, output, Reported}
+use Rattle.report.proofs.Answers.{output-long, output-found, output-refused, refusal-below}
 use Rattle.report.proofs.Looks.{steps-few}
 
 -- ---- the positions are few, and small
@@ -55,18 +54,6 @@ pub positions-below : (P : List ℕ) (k : ℕ) (T : List ℕ) (n : ℕ) → suc 
 unfolding positions
 positions-below P k T n l = select-below _ 0 (suc (length T) - length P) n (omega arith)
 
--- ---- the text is no longer than the input
-
-pub text-shorter : (input : List ℕ) → length (textOf input) ≤ length input
-unfolding textOf
-text-shorter input =
-    omega (
-      arith,
-      less-shorter (after 10 input),
-      ap length (after-drop 10 input),
-      length-drop (length (before 10 input) + 1) input,
-    )
-
 -- ---- what is not refused
 
 pub record Taken (input : List ℕ) : Type 0 where
@@ -84,14 +71,6 @@ taken input e =
       good = eleventh .0;
       request = admitted (patternOf input) (toleranceOf input) (methodOf input) (eleventh .1);
     }
-
--- the text of a request is no longer than the longest input
-pub request-fits : (input : List ℕ) {method k from lineEnd end : ℕ} → Requested input method k from lineEnd end
-    → length (part input (lineEnd + 1) end) ≤ 16384
-unfolding tooLong
-request-fits input q =
-    let short = ltb-false 16384 (length input) (q .short) in
-    omega (arith, ap length (q .text-is), text-shorter input)
 
 -- ---- room for what is found, and for every output
 
@@ -141,7 +120,7 @@ output-inside {input} {before} reported long =
 
 long-output : (input : List ℕ) → 16384 < length input → output input ≡ refusalText 6
 unfolding tooLong
-long-output input l = output-given input 5 (refusal-long input (lt-ltb 16384 (length input) l))
+long-output input l = output-long input (lt-ltb 16384 (length input) l)
 
 pub output-cut : (input : List ℕ) → output (take 16385 input) ≡ output input
 output-cut input =

@@ -1,5 +1,2 @@
--- What the program mixlist reads and what it prints, in the order in which to read it.
-pub mod Request
+-- What the program mixlist prints for an input.
 pub mod Output
-pub mod Buffer
-pub mod Parsing

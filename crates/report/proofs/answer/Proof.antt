@@ -2,11 +2,11 @@
 use borrow.Author.Needs.{needs}
 use native.Mathlib.Omega.{arith}
 use lib.Dec.{lit<}
-use Rattle.report.specs.Parsing.{Ordered, Parses}
-use Rattle.report.specs.declared.Parsed.the-variants.{Request}
-use Rattle.report.proofs.Lines.{refusal-most}
-use Rattle.report.proofs.Answers.{Requested, parsed-long, parsed-bad, parsed-request, output-given, request-output}
-use Rattle.report.proofs.Room.{request-fits}
+use Rattle.request.specs.Parsing.{Ordered, Parses}
+use Rattle.request.specs.declared.Parsed.the-variants.{Request}
+use Rattle.request.proofs.Answered.{Requested, parsed-long, parsed-bad, parsed-request, request-fits}
+use Rattle.lines.proofs.Lines.{refusal-most}
+use Rattle.report.proofs.Answers.{output-long, output-bad, request-output}
 use Rattle.report.proofs.answer.Statement.{statement}
 use Rattle.report.proofs.answer.Tie as tie
 
@@ -91,7 +91,7 @@ returns c =
     let told = c .before .before .before .before in
     let parsing : tie.After-parse = told .before .before in
     let input = parsing .before .before .before .args .input .now in
-    rw (output-given input 5 (parsed-long input (rw (told .enum-told .given .1) at (parsing .parse .ensures))))
+    rw (output-long input (parsed-long input (rw (told .enum-told .given .1) at (parsing .parse .ensures))))
     (c .before .before .write-refusal .ensures)
 
 same-length-2 : tie.Need-same-length-2
@@ -102,7 +102,8 @@ returns-2 c =
     let told = c .before .before .before .before in
     let parsing : tie.After-parse = told .before .before in
     let input = parsing .before .before .before .args .input .now in
-    rw (output-given input 10 (parsed-bad input (rw (told .enum-told2 .given .1) at (parsing .parse .ensures))))
+    let tests = parsed-bad input (rw (told .enum-told2 .given .1) at (parsing .parse .ensures)) in
+    rw (output-bad input (tests .0) (tests .1))
     (c .before .before .write-refusal2 .ensures)
 
 same-length-3 : tie.Need-same-length-3

@@ -1,7 +1,7 @@
 -- `report::answer_request` meets its contract: a whole search, and then its refusal's line or what it found.
 use borrow.Author.Needs.{needs}
 use native.Mathlib.Omega.{arith}
-use Rattle.report.proofs.Lines.{refusal-most}
+use Rattle.lines.proofs.Lines.{refusal-most}
 use Rattle.report.proofs.Founds.{number-small, refused-text, found-inside, found-text, found-fits}
 use Rattle.report.proofs.answer_request.Statement.{statement}
 use Rattle.report.proofs.answer_request.Tie as tie

@@ -1,0 +1,3 @@
+-- What the program mixlist is asked, in the order in which to read it.
+pub mod Request
+pub mod Parsing

@@ -1,0 +1,88 @@
+-- The answer of `parse`: document 01's number and values for each case of the enum, and what they have to be.
+use Prim.Native.Nat.{ℕ, _+_, _-_, _≤_, _<_}
+use mathlib.Core.Path.{_≡_}
+use mathlib.Core.Bool.{true, false, cond}
+use mathlib.Core.List.{List, []}
+use lib.ListN.{length, take, drop}
+use Rattle.request.specs.Request.{spelled, methodField, toleranceField, patternField, goodLine, lessNewline}
+use Rattle.request.specs.Request.{tooLong, badLine, methodOf, toleranceOf, patternOf, textOf}
+use Rattle.request.specs.declared.Parsed.{Parsed}
+use Rattle.request.specs.declared.Parsed.the-variants.{TooLong, BadLine, Request}
+use Rattle.request.specs.declared.FirstLine.{FirstLine}
+use Rattle.request.specs.declared.FirstLine.the-variants.{Bad, Fields}
+
+-- What an input asks for, or the number with which it is refused before that is known
+pub record Asked : Type 0 where
+  pub refusal : ℕ
+  pub method : ℕ
+  pub k : ℕ
+  pub pattern : List ℕ
+  pub text : List ℕ
+
+abbrev pub refusedWith : ℕ → Asked
+refusedWith number = record { refusal = number; method = 0; k = 0; pattern = []; text = [] }
+
+-- What the input asks for: 6 is tested before 11
+unfoldable pub asked : List ℕ → Asked
+asked input =
+    cond (tooLong input) (refusedWith 6)
+    (cond (badLine input) (refusedWith 11)
+    (record {
+      refusal = 0;
+      method = methodOf input;
+      k = toleranceOf input;
+      pattern = patternOf input;
+      text = textOf input;
+    }))
+
+-- The bytes of U from `start` up to `end`
+abbrev pub part : List ℕ → ℕ → ℕ → List ℕ
+part U start end = take (end - start) (drop start U)
+
+-- The number and the values of each case: the pattern stands from `from` up to the newline at `line_end`, and the text after that up to `end`
+abbrev pub meaning : List ℕ → Parsed → Asked
+meaning input TooLong = refusedWith 6
+meaning input BadLine = refusedWith 11
+meaning input (Request method k from lineEnd end) =
+    record {
+      refusal = 0;
+      method = method;
+      k = k;
+      pattern = part input from lineEnd;
+      text = part input (lineEnd + 1) end;
+    }
+
+-- The places lie within the input, in this order
+pub record Ordered (input : List ℕ) (from lineEnd end : ℕ) : Type 0 where
+  pub pattern : from ≤ lineEnd
+  pub text : lineEnd < end
+  pub within : end ≤ length input
+
+abbrev pub Places : List ℕ → Parsed → Type 0
+Places input TooLong = Unit {0}
+Places input BadLine = Unit {0}
+Places input (Request method k from lineEnd end) = Ordered input from lineEnd end
+
+pub record Parses (input : List ℕ) (answer : Parsed) : Type 0 where
+  pub values : meaning input answer ≡ asked input
+  pub places : Places input answer
+
+-- ---- what the parts of `parse` yield
+
+-- The fields of a good line; its pattern stands from `from` on
+pub record FieldsOf (line : List ℕ) (method k from : ℕ) : Type 0 where
+  pub good : goodLine line ≡ true
+  pub method-is : method ≡ spelled 0 (methodField line)
+  pub k-is : k ≡ spelled 0 (toleranceField line)
+  pub pattern-is : drop from line ≡ patternField line
+  pub within : from ≤ length line
+
+abbrev pub LineRead : List ℕ → FirstLine → Type 0
+LineRead line Bad = goodLine line ≡ false
+LineRead line (Fields method k from) = FieldsOf line method k from
+
+-- The text stands from `start` up to `end`
+pub record TextEnds (input : List ℕ) (start end : ℕ) : Type 0 where
+  pub text-is : part input start end ≡ lessNewline (drop start input)
+  pub least : start ≤ end
+  pub most : end ≤ length input
