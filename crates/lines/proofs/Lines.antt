@@ -6,8 +6,9 @@ use native.Mathlib.Numerals.{add-one}
 use native.Mathlib.Omega.{arith}
 use lib.ListN.{length, getD, take, drop, length-append}
 use lib.Seq.{length-take-le, take-suc, take-add}
-use Rattle.lines.specs.Lines.{ascii, decimal, numberLine, header, positionLines, counts, refusalText, outputText}
-use Rattle.lines.proofs.Decimals.{length-decimal}
+use Rattle.decimals.specs.Decimal.{ascii, decimal, numberLine}
+use Rattle.lines.specs.Lines.{header, positionLines, counts, refusalText, outputText}
+use Rattle.decimals.proofs.Decimals.{length-decimal, length-numberLine}
 
 -- ---- the parts of a line, as they are written
 
@@ -71,10 +72,6 @@ positions-room S i count at l h room =
     omega (arith, ap length (positions-more S i (omega arith)), positions-shorter S (i + 1) count (omega arith))
 
 -- ---- how long the lines are
-
-pub length-numberLine : (n : ℕ) → length (numberLine n) ≡ length (decimal n) + 1
-unfolding numberLine ascii
-length-numberLine n = length-append (decimal n) (10 ∷ [])
 
 -- a pattern of at most 64 bytes, k of at most two digits, a method of one
 pub header-most : (P : List ℕ) (k method : ℕ) → length P ≤ 64 → k < 100 → method < 10 → length (header P k method) ≤ 83

@@ -1,3 +1,2 @@
--- The lines that the program mixlist prints, and how they stand in a lent buffer.
+-- The lines that the program mixlist prints.
 pub mod Lines
-pub mod Buffer

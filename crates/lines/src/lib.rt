@@ -1,65 +1,16 @@
-// The lines of the program mixlist's output, written into a lent buffer (document 01, "The program"). Each function writes from the place `at`
-// on and answers with the place after what it wrote.
-ghost use mathlib.Core.List.{_++_};
+// The lines of the program mixlist's output, written into a lent buffer (document 01, "The program"). Each function but the last writes from
+// the place `at` on; each answers with the place after what it wrote.
 ghost use Prim.Native.Nat.{_+_, _≤_};
 ghost use lib.ListN.{length, take};
-ghost use Rattle.lines.specs.Lines.{decimal, numberLine, header, positionLines, counts, refusalText, outputText};
-ghost use Rattle.lines.specs.Buffer.{Written};
-
-// Copies all of source into the buffer.
-fn write_bytes(source: &[u8], buffer: &mut [u8], at: usize) -> usize
-    requires { ⌜ at + length (now source) ≤ length (now buffer) ⌝ }
-    ensures { λ r. ⌜ Written (now (buffer .entry)) at (now (source .entry)) (now (buffer .exit)) r ⌝ }
-{
-    let mut next = at;
-    let mut i = 0;
-    while i < source.len() {
-        buffer[next] = source[i];
-        next += 1;
-        i += 1;
-    }
-    next
-}
-
-// Writes n in base ten. The digits in front of the last one are those of n / 10.
-fn write_decimal(n: usize, buffer: &mut [u8], at: usize) -> usize
-    requires { ⌜ at + length (decimal n) ≤ length (now buffer) ⌝ }
-    ensures { λ r. ⌜ Written (now (buffer .entry)) at (decimal n) (now (buffer .exit)) r ⌝ }
-{
-    if n < 10 {
-        buffer[at] = b'0' + n as u8;
-        return at + 1;
-    }
-    let last = write_decimal(n / 10, buffer, at);
-    buffer[last] = b'0' + (n % 10) as u8;
-    last + 1
-}
-
-// Writes a word and n.
-fn write_labeled(word: &[u8], n: usize, buffer: &mut [u8], at: usize) -> usize
-    requires { ⌜ at + length (now word ++ decimal n) ≤ length (now buffer) ⌝ }
-    ensures { λ r. ⌜ Written (now (buffer .entry)) at (now (word .entry) ++ decimal n) (now (buffer .exit)) r ⌝ }
-{
-    let word_end = write_bytes(word, buffer, at);
-    write_decimal(n, buffer, word_end)
-}
-
-// Writes a word, n and the newline that ends their line. The word may be empty.
-fn write_labeled_line(word: &[u8], n: usize, buffer: &mut [u8], at: usize) -> usize
-    requires { ⌜ at + length (now word ++ numberLine n) ≤ length (now buffer) ⌝ }
-    ensures { λ r. ⌜ Written (now (buffer .entry)) at (now (word .entry) ++ numberLine n) (now (buffer .exit)) r ⌝ }
-{
-    let end = write_labeled(word, n, buffer, at);
-    buffer[end] = b'\n';
-    end + 1
-}
+ghost use Rattle.decimals.specs.Buffer.{Written};
+ghost use Rattle.lines.specs.Lines.{header, positionLines, counts, refusalText, outputText};
 
 // Writes the line of a refusal.
 pub fn write_refusal(number: usize, buffer: &mut [u8], at: usize) -> usize
     requires { ⌜ at + length (refusalText number) ≤ length (now buffer) ⌝ }
     ensures { λ r. ⌜ Written (now (buffer .entry)) at (refusalText number) (now (buffer .exit)) r ⌝ }
 {
-    write_labeled_line(b"refused ", number, buffer, at)
+    decimals::write_labeled_line(b"refused ", number, buffer, at)
 }
 
 // Writes the header line, which repeats the fields of the request.
@@ -67,10 +18,10 @@ fn write_header(pattern: &[u8], method: u8, k: u8, buffer: &mut [u8], at: usize)
     requires { ⌜ at + length (header (now pattern) k method) ≤ length (now buffer) ⌝ }
     ensures { λ r. ⌜ Written (now (buffer .entry)) at (header (now (pattern .entry)) k method) (now (buffer .exit)) r ⌝ }
 {
-    let pattern_at = write_bytes(b"mix ", buffer, at);
-    let pattern_end = write_bytes(pattern, buffer, pattern_at);
-    let method_end = write_labeled(b" method ", method as usize, buffer, pattern_end);
-    write_labeled_line(b" k ", k as usize, buffer, method_end)
+    let pattern_at = decimals::write_bytes(b"mix ", buffer, at);
+    let pattern_end = decimals::write_bytes(pattern, buffer, pattern_at);
+    let method_end = decimals::write_labeled(b" method ", method as usize, buffer, pattern_end);
+    decimals::write_labeled_line(b" k ", k as usize, buffer, method_end)
 }
 
 // Writes the first `count` positions of the list, each as a line.
@@ -81,7 +32,7 @@ fn write_positions(list: &[u32], count: usize, buffer: &mut [u8], at: usize) -> 
     let mut next = at;
     let mut i = 0;
     while i < count {
-        next = write_labeled_line(b"", list[i] as usize, buffer, next);
+        next = decimals::write_labeled_line(b"", list[i] as usize, buffer, next);
         i += 1;
     }
     next
@@ -92,8 +43,8 @@ fn write_counts(found: usize, looks: usize, buffer: &mut [u8], at: usize) -> usi
     requires { ⌜ at + length (counts found looks) ≤ length (now buffer) ⌝ }
     ensures { λ r. ⌜ Written (now (buffer .entry)) at (counts found looks) (now (buffer .exit)) r ⌝ }
 {
-    let found_end = write_labeled(b"found ", found, buffer, at);
-    write_labeled_line(b" looks ", looks, buffer, found_end)
+    let found_end = decimals::write_labeled(b"found ", found, buffer, at);
+    decimals::write_labeled_line(b" looks ", looks, buffer, found_end)
 }
 
 // Writes what was found: the header, the first `found` positions of the list, and the two counts.

@@ -6,8 +6,10 @@ use Rattle.jumbled.specs.Scan.{scan, singles, backward}
 use Rattle.jumbled.specs.Fields.{first, lg, fieldOf, layoutOf, widthOf, bits, startOf, valueOf, topSet, some, overflows}
 use Rattle.jumbled.specs.Steps.{bamScan, steps}
 use Rattle.jumbled.specs.Refusals.{given, methodTests, patternTests, programTests}
-use Rattle.request.specs.Request.{has, before, after, digit, methodForm, toleranceForm, spelled, firstLine, methodField, toleranceField, patternField, goodLine, methodOf, toleranceOf, patternOf, lessNewline, textOf, tooLong, badLine}
-use Rattle.lines.specs.Lines.{ascii, digits, decimal, numberLine, header, positionLines, counts, outputText, refusalText}
+use Rattle.first_line.specs.Line.{has, before, after, digit, methodForm, toleranceForm, spelled, methodField, toleranceField, patternField, goodLine}
+use Rattle.request.specs.Request.{firstLine, methodOf, toleranceOf, patternOf, lessNewline, textOf, tooLong, badLine}
+use Rattle.decimals.specs.Decimal.{ascii, digits, decimal, numberLine}
+use Rattle.lines.specs.Lines.{header, positionLines, counts, outputText, refusalText}
 use Rattle.report.specs.Output.{requestRefusal, output}
 
 printed : output (ascii "2 0 abc\nabcxxxabc\n") ≡ ascii "mix abc method 2 k 0\n0\n6\nfound 2 looks 9\n"

@@ -4,11 +4,11 @@ use mathlib.Core.Bool.{true, true≢false}
 use mathlib.Core.List.{List, [], _∷_}
 use Prim.Native.Nat.{ℕ, _+_, _*_, _-_, _/_, _%_, _≤_, _<_}
 use native.Mathlib.Omega.{arith}
-use Rattle.request.specs.Request.{toleranceForm, spelled, methodField, toleranceField, goodLine}
-use Rattle.request.proofs.Fields.{digit-least, digit-most, tolerance-zero, tolerance-digits, method-tolerance, spelled-one, spelled-two}
-use Rattle.request.proofs.Splits.{good-forms}
-use Rattle.lines.specs.Lines.{decimal}
-use Rattle.lines.proofs.Decimals.{decimal-small, decimal-large}
+use Rattle.first_line.specs.Line.{toleranceForm, spelled, methodField, toleranceField, goodLine}
+use Rattle.first_line.proofs.Fields.{digit-least, digit-most, tolerance-zero, tolerance-digits, method-tolerance, spelled-one, spelled-two}
+use Rattle.first_line.proofs.Splits.{good-forms}
+use Rattle.decimals.specs.Decimal.{decimal}
+use Rattle.decimals.proofs.Decimals.{decimal-small, decimal-large}
 
 -- the two digits of a number of two
 two-digits : (x y : ℕ) → 1 ≤ x → x < 10 → y < 10 → decimal (x * 10 + y) ≡ (48 + x) ∷ (48 + y) ∷ []

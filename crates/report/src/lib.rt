@@ -3,7 +3,7 @@ ghost use mathlib.Core.Path.{_≡_};
 ghost use Prim.Native.Nat.{_≤_};
 ghost use lib.ListN.{length};
 ghost use Rattle.admit.specs.Numbers.{numberOf};
-ghost use Rattle.lines.specs.Buffer.{Written};
+ghost use Rattle.decimals.specs.Buffer.{Written};
 ghost use Rattle.report.specs.Output.{answerText, output, Reported};
 use admit::Refusal;
 use request::LONGEST_INPUT;

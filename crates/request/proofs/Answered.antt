@@ -6,11 +6,12 @@ use Prim.Native.Nat.{ℕ, _+_, _≤_}
 use native.Mathlib.Omega.{arith}
 use lib.ListN.{length, length-drop}
 use borrow.Author.Tests.{eqb-false, ltb-false}
-use Rattle.request.specs.Request.{before, after, methodOf, toleranceOf, patternOf, textOf, tooLong, badLine}
+use Rattle.first_line.specs.Line.{before, after}
+use Rattle.request.specs.Request.{methodOf, toleranceOf, patternOf, textOf, tooLong, badLine}
 use Rattle.request.specs.Parsing.{Asked, refusedWith, asked, meaning, part, Parses}
 use Rattle.request.specs.declared.Parsed.{Parsed}
 use Rattle.request.specs.declared.Parsed.the-variants.{TooLong, BadLine, Request}
-use Rattle.request.proofs.Cuts.{after-drop}
+use Rattle.first_line.proofs.Cuts.{after-drop}
 use Rattle.request.proofs.Texts.{less-shorter}
 
 -- ---- the two tests, from the number that is answered

@@ -8,10 +8,12 @@ use native.Mathlib.Omega.{arith}
 use lib.ListN.{length, take, drop}
 use lib.Seq.{take-nil, length-take-le}
 use borrow.Author.Tests.{lt-ltb, le-ltb}
-use Rattle.request.specs.Request.{has, before, after, goodLine, patternField, lessNewline, firstLine, methodOf, toleranceOf, patternOf, textOf, tooLong, badLine}
-use Rattle.request.specs.Parsing.{Asked, asked, Parses, FieldsOf, TextEnds}
+use Rattle.first_line.specs.Line.{has, before, after, goodLine, patternField}
+use Rattle.request.specs.Request.{lessNewline, firstLine, methodOf, toleranceOf, patternOf, textOf, tooLong, badLine}
+use Rattle.first_line.specs.Reading.{FieldsOf}
+use Rattle.request.specs.Parsing.{Asked, asked, Parses, TextEnds}
 use Rattle.request.specs.declared.Parsed.the-variants.{TooLong, BadLine, Request}
-use Rattle.request.proofs.Cuts.{before-take, after-drop, before-le, has-cut}
+use Rattle.first_line.proofs.Cuts.{before-take, after-drop, before-le, has-cut}
 
 -- a part of the first t elements is that part of all
 drop-take : (U : List ℕ) (f t : ℕ) → drop f (take t U) ≡ take (t - f) (drop f U)

@@ -1,15 +1,12 @@
 -- The answer of `parse`: document 01's number and values for each case of the enum, and what they have to be.
 use Prim.Native.Nat.{ℕ, _+_, _-_, _≤_, _<_}
 use mathlib.Core.Path.{_≡_}
-use mathlib.Core.Bool.{true, false, cond}
+use mathlib.Core.Bool.{cond}
 use mathlib.Core.List.{List, []}
 use lib.ListN.{length, take, drop}
-use Rattle.request.specs.Request.{spelled, methodField, toleranceField, patternField, goodLine, lessNewline}
-use Rattle.request.specs.Request.{tooLong, badLine, methodOf, toleranceOf, patternOf, textOf}
+use Rattle.request.specs.Request.{methodOf, toleranceOf, patternOf, lessNewline, textOf, tooLong, badLine}
 use Rattle.request.specs.declared.Parsed.{Parsed}
 use Rattle.request.specs.declared.Parsed.the-variants.{TooLong, BadLine, Request}
-use Rattle.request.specs.declared.FirstLine.{FirstLine}
-use Rattle.request.specs.declared.FirstLine.the-variants.{Bad, Fields}
 
 -- What an input asks for, or the number with which it is refused before that is known
 pub record Asked : Type 0 where
@@ -67,19 +64,7 @@ pub record Parses (input : List ℕ) (answer : Parsed) : Type 0 where
   pub values : meaning input answer ≡ asked input
   pub places : Places input answer
 
--- ---- what the parts of `parse` yield
-
--- The fields of a good line; its pattern stands from `from` on
-pub record FieldsOf (line : List ℕ) (method k from : ℕ) : Type 0 where
-  pub good : goodLine line ≡ true
-  pub method-is : method ≡ spelled 0 (methodField line)
-  pub k-is : k ≡ spelled 0 (toleranceField line)
-  pub pattern-is : drop from line ≡ patternField line
-  pub within : from ≤ length line
-
-abbrev pub LineRead : List ℕ → FirstLine → Type 0
-LineRead line Bad = goodLine line ≡ false
-LineRead line (Fields method k from) = FieldsOf line method k from
+-- ---- what `text_end` yields
 
 -- The text stands from `start` up to `end`
 pub record TextEnds (input : List ℕ) (start end : ℕ) : Type 0 where

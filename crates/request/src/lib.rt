@@ -1,10 +1,8 @@
-// The program mixlist's request line, as functions on slices (document 01, "The program").
-ghost use mathlib.Core.Path.{_≡_};
-ghost use mathlib.Core.Bool.{true};
+// What the program mixlist's input asks for (document 01, "The program").
 ghost use Prim.Native.Nat.{_≤_};
 ghost use lib.ListN.{length};
-ghost use Rattle.request.specs.Request.{before, digit, methodForm, toleranceForm, spelled};
-ghost use Rattle.request.specs.Parsing.{Parses, LineRead, TextEnds};
+ghost use Rattle.request.specs.Parsing.{Parses, TextEnds};
+use first_line::FirstLine;
 
 // The longest input that the program takes.
 pub const LONGEST_INPUT: usize = 16384;
@@ -22,102 +20,6 @@ pub enum Parsed {
         line_end: usize,
         end: usize,
     },
-}
-
-// The place of the first `sought`, or the length where there is none.
-fn find(bytes: &[u8], sought: u8) -> usize
-    ensures { λ r. ⌜ r ≡ length (before sought (now (bytes .entry))) ⌝ }
-{
-    let mut i = 0;
-    while i < bytes.len() {
-        if bytes[i] == sought {
-            return i;
-        }
-        i += 1;
-    }
-    i
-}
-
-// A digit of base ten.
-fn is_digit(byte: u8) -> bool
-    ensures { λ r. ⌜ r ≡ digit byte ⌝ }
-{
-    if byte < b'0' {
-        return false;
-    }
-    byte <= b'9'
-}
-
-// The method's field has its form: one digit.
-fn is_method(field: &[u8]) -> bool
-    ensures { λ r. ⌜ r ≡ methodForm (now (field .entry)) ⌝ }
-{
-    if field.len() != 1 {
-        return false;
-    }
-    is_digit(field[0])
-}
-
-// k's field has its form: one digit, or two of which the first is no zero.
-fn is_tolerance(field: &[u8]) -> bool
-    ensures { λ r. ⌜ r ≡ toleranceForm (now (field .entry)) ⌝ }
-{
-    if field.len() != 2 {
-        return is_method(field);
-    }
-    if field[0] == b'0' {
-        return false;
-    }
-    if !is_digit(field[0]) {
-        return false;
-    }
-    is_digit(field[1])
-}
-
-// The number that a field of one or two digits spells.
-fn number(field: &[u8]) -> u8
-    requires { ⌜ toleranceForm (now field) ≡ true ⌝ }
-    ensures { λ r. ⌜ r ≡ spelled 0 (now (field .entry)) ⌝ }
-{
-    let first = field[0] - b'0';
-    if field.len() == 1 {
-        return first;
-    }
-    first * 10 + (field[1] - b'0')
-}
-
-// The fields of the first line. The pattern stands from `from` on.
-enum FirstLine {
-    Bad,
-    Fields { method: u8, k: u8, from: usize },
-}
-
-// Reads the first line, which comes without its newline.
-fn first_line(line: &[u8]) -> FirstLine
-    ensures { λ r. ⌜ LineRead (now (line .entry)) r ⌝ }
-{
-    let method_end = find(line, b' ');
-    if method_end == line.len() {
-        return FirstLine::Bad;
-    }
-    let k_at = method_end + 1;
-    let k_end = k_at + find(&line[k_at..], b' ');
-    if k_end == line.len() {
-        return FirstLine::Bad;
-    }
-    let method = &line[..method_end];
-    let k = &line[k_at..k_end];
-    if !is_method(method) {
-        return FirstLine::Bad;
-    }
-    if !is_tolerance(k) {
-        return FirstLine::Bad;
-    }
-    FirstLine::Fields {
-        method: number(method),
-        k: number(k),
-        from: k_end + 1,
-    }
 }
 
 // The end of the text that starts at `start`: one last newline is no part of it.
@@ -142,11 +44,11 @@ pub fn parse(input: &[u8]) -> Parsed
     if input.len() > LONGEST_INPUT {
         return Parsed::TooLong;
     }
-    let line_end = find(input, b'\n');
+    let line_end = first_line::find(input, b'\n');
     if line_end == input.len() {
         return Parsed::BadLine;
     }
-    match first_line(&input[..line_end]) {
+    match first_line::first_line(&input[..line_end]) {
         FirstLine::Bad => Parsed::BadLine,
         FirstLine::Fields { method, k, from } => Parsed::Request {
             method,

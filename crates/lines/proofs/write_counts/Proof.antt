@@ -3,8 +3,8 @@ use borrow.Author.Needs.{needs}
 use mathlib.Core.List.{_++_}
 use Prim.Native.Nat.{_+_, _≤_}
 use lib.ListN.{length}
-use Rattle.lines.specs.Lines.{ascii, decimal, numberLine}
-use Rattle.lines.proofs.Puts.{first-fits, second-fits, written-then}
+use Rattle.decimals.specs.Decimal.{ascii, decimal, numberLine}
+use Rattle.decimals.proofs.Puts.{first-fits, second-fits, written-then}
 use Rattle.lines.proofs.Lines.{counts-parts}
 use Rattle.lines.proofs.write_counts.Statement.{statement}
 use Rattle.lines.proofs.write_counts.Tie as tie

@@ -3,9 +3,9 @@ use borrow.Author.Needs.{needs}
 use mathlib.Core.List.{List, _++_}
 use Prim.Native.Nat.{ℕ, _+_, _≤_}
 use lib.ListN.{length}
-use Rattle.lines.specs.Lines.{ascii, decimal, numberLine}
-use Rattle.lines.specs.Buffer.{Written}
-use Rattle.lines.proofs.Puts.{first-fits, second-fits, written-then}
+use Rattle.decimals.specs.Decimal.{ascii, decimal, numberLine}
+use Rattle.decimals.specs.Buffer.{Written}
+use Rattle.decimals.proofs.Puts.{first-fits, second-fits, written-then}
 use Rattle.lines.proofs.Lines.{header-parts}
 use Rattle.lines.proofs.write_header.Statement.{statement}
 use Rattle.lines.proofs.write_header.Tie as tie

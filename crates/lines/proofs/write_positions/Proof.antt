@@ -5,9 +5,10 @@ use mathlib.Core.List.{_++_}
 use Prim.Native.Nat.{_+_, _≤_, _-_}
 use native.Mathlib.Omega.{arith}
 use lib.ListN.{length, getD, take}
-use Rattle.lines.specs.Lines.{numberLine, positionLines}
-use Rattle.lines.specs.Buffer.{Written}
-use Rattle.lines.proofs.Puts.{written-none, written-length, written-then, first-fits, second-fits}
+use Rattle.decimals.specs.Decimal.{numberLine}
+use Rattle.lines.specs.Lines.{positionLines}
+use Rattle.decimals.specs.Buffer.{Written}
+use Rattle.decimals.proofs.Puts.{written-none, written-length, written-then, first-fits, second-fits}
 use Rattle.lines.proofs.Lines.{positions-none, positions-more, positions-room}
 use Rattle.lines.proofs.write_positions.Statement.{statement}
 use Rattle.lines.proofs.write_positions.Tie as tie

@@ -1,6 +1,7 @@
 -- `lines::write_refusal` meets its contract.
 use borrow.Author.Needs.{needs}
-use Rattle.lines.specs.Lines.{ascii, refusalText}
+use Rattle.decimals.specs.Decimal.{ascii}
+use Rattle.lines.specs.Lines.{refusalText}
 use Rattle.lines.proofs.write_refusal.Statement.{statement}
 use Rattle.lines.proofs.write_refusal.Tie as tie
 

@@ -1,0 +1,14 @@
+-- `first_line::is_digit` meets its contract.
+use mathlib.Core.Path.{sym}
+use Rattle.first_line.proofs.Fields.{digit-below, digit-from}
+use Rattle.first_line.proofs.is_digit.Statement.{statement}
+use Rattle.first_line.proofs.is_digit.Tie as tie
+
+returns : tie.Need-returns
+returns c = sym (digit-below (c .before .args .byte) (c .if1 .taken))
+
+returns-2 : tie.Need-returns-2
+returns-2 c = sym (digit-from (c .before .args .byte) (c .if1 .left))
+
+pub is-digit-spec : {M : Type 1} → statement M
+is-digit-spec = tie.close (tie.spec returns returns-2)
