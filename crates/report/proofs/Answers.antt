@@ -3,9 +3,10 @@ use mathlib.Core.Path.{_≡_, refl, sym, ap, _∙_}
 use mathlib.Core.Bool.{Bool, true, false, cond}
 use mathlib.Core.List.{List, [], _∷_}
 use Prim.Native.Nat.{ℕ, suc, _+_, _<_}
-use native.Mathlib.Nat.{suc-ne-zero}
+use native.Mathlib.Nat.{zero-add, suc-ne-zero}
 use native.Mathlib.Omega.{arith}
 use lib.Dec.{lit<}
+use lib.ListN.{length}
 use borrow.Author.Tests.{eq-eqb, ne-eqb}
 use Rattle.jumbled.specs.Match.{positions}
 use Rattle.jumbled.specs.Steps.{steps}
@@ -13,8 +14,9 @@ use Rattle.jumbled.specs.Refusals.{Test, given, methodTests, patternTests, prog
 use Rattle.request.specs.Request.{methodOf, toleranceOf, patternOf, textOf, tooLong, badLine}
 use Rattle.request.specs.Parsing.{part}
 use Rattle.request.proofs.Answered.{Requested}
+use Rattle.decimals.specs.Buffer.{Written}
 use Rattle.lines.specs.Lines.{outputText, refusalText}
-use Rattle.report.specs.Output.{requestRefusal, answerText, output}
+use Rattle.report.specs.Output.{requestRefusal, answerText, output, Reported}
 
 -- ---- the refusal
 
@@ -86,3 +88,7 @@ given-below (t ∷ ts) h = pick (t .applies) (given-below ts (h .1))
 pub refusal-below : (input : List ℕ) → requestRefusal input < 12
 unfolding requestRefusal programTests patternTests methodTests
 refusal-below input = given-below _ (lit< tt, (lit< tt, (lit< tt, (lit< tt, (lit< tt, (lit< tt, (lit< tt, tt)))))))
+
+-- a text that is the output, written at the start of the buffer, is what the program reports
+pub reported : {input U before after : List ℕ} {n : ℕ} → output input ≡ U → Written before 0 U after n → Reported input before after n
+reported e w = record { length-is = rw e (w .place ∙ zero-add _); filled = rw e (w .filled) }

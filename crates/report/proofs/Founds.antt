@@ -2,7 +2,7 @@
 use mathlib.Core.Path.{_≡_, refl, sym, ap, ap₂, _∙_}
 use mathlib.Core.List.{List}
 use Prim.Native.Nat.{ℕ, zero, suc, _+_, _≤_, _<_}
-use native.Mathlib.Nat.{zero-add, suc-ne-zero}
+use native.Mathlib.Nat.{zero-add, suc-ne-zero, le-trans}
 use native.Mathlib.Omega.{arith}
 use lib.Dec.{lit<}
 use lib.ListN.{length, take}
@@ -22,9 +22,9 @@ use Rattle.search.specs.Whole.{wholeNumber, Whole}
 use Rattle.search.proofs.Wholes.{number-positive, on-accepted, whole-number}
 use Rattle.lines.specs.Lines.{outputText, refusalText}
 use Rattle.report.specs.Output.{answerText}
-use Rattle.report.proofs.Room.{positions-few, found-room}
+use Rattle.report.proofs.Room.{refusal-room, positions-few, found-room}
 
-pub number-small : (refusal : Refusal) → numberOf refusal < 100
+number-small : (refusal : Refusal) → numberOf refusal < 100
 number-small PatternLength = lit< tt
 number-small ToleranceTooLarge = lit< tt
 number-small UnknownMethod = lit< tt
@@ -36,6 +36,11 @@ number-small TotalTooLarge = lit< tt
 number-small Malformed = lit< tt
 number-small BufferTooShort = lit< tt
 number-small BadRequest = lit< tt
+
+-- so there is room for the line of any refusal
+pub refused-fits : {number room : ℕ} (refusal : Refusal) → number ≡ numberOf refusal → 98416 ≤ room
+    → 0 + length (refusalText number) ≤ room
+refused-fits refusal e most = refusal-room (rw e (number-small refusal)) most
 
 same : (n : ℕ) → unlessRefused n 0 n ≡ n
 same zero = refl
@@ -97,5 +102,5 @@ module _ {P : List ℕ} {k method : ℕ} {T list after : List ℕ} {found looks 
       rw (eq-eqb (given (patternTests P k method)) 0 admissible)
       (ap₂ (outputText P k method) (sym listed-is) (sym looks-are))
 
-  pub found-fits : length (outputText P k method (take found after) looks) ≤ 98416
-  found-fits = rw (listed-is, looks-are) (found-room P k method T request fits)
+  pub found-fits : {room : ℕ} → 98416 ≤ room → length (outputText P k method (take found after) looks) ≤ room
+  found-fits most = rw (listed-is, looks-are) (le-trans (found-room P k method T request fits) most)

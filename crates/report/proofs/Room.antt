@@ -7,7 +7,7 @@ use Prim.Native.Nat.{ℕ, zero, suc, _+_, _-_, _≤_, _<_}
 use native.Mathlib.Omega.{arith}
 use lib.ListN.{length, getD, take}
 use lib.Seq.{length-take-le, take-all}
-use borrow.Author.Tests.{lt-ltb, ltb-false}
+use borrow.Author.Tests.{lt-ltb}
 use Rattle.jumbled.specs.Match.{select, positions}
 use Rattle.jumbled.specs.Steps.{steps}
 use Rattle.jumbled.specs.Refusals.{programTests}
@@ -15,7 +15,7 @@ use Rattle.jumbled.proofs.Admission.{given-none, Admitted, admitted}
 use Rattle.jumbled.proofs.Sums.{below-or-not}
 use Rattle.listing.proofs.Placing.{length-placed}
 use Rattle.request.specs.Request.{methodOf, toleranceOf, patternOf, textOf, tooLong, badLine}
-use Rattle.request.proofs.Answered.{text-shorter}
+use Rattle.request.proofs.Answered.{not-long, text-shorter}
 use Rattle.lines.specs.Lines.{outputText, refusalText}
 use Rattle.lines.proofs.Lines.{output-most, refusal-most}
 use Rattle.report.specs.Output.{requestRefusal, output, Reported}
@@ -62,17 +62,20 @@ pub record Taken (input : List ℕ) : Type 0 where
   pub request : Admitted (patternOf input) (toleranceOf input) (methodOf input)
 
 pub taken : (input : List ℕ) → requestRefusal input ≡ 0 → Taken input
-unfolding requestRefusal programTests tooLong
+unfolding requestRefusal programTests
 taken input e =
     let sixth = given-none 5 _ _ e in
     let eleventh = given-none 10 _ _ (sixth .1) in
     record {
-      short = ltb-false 16384 (length input) (sixth .0);
+      short = not-long input (sixth .0);
       good = eleventh .0;
       request = admitted (patternOf input) (toleranceOf input) (methodOf input) (eleventh .1);
     }
 
--- ---- room for what is found, and for every output
+-- ---- room for a refusal, for what is found, and for every output
+
+pub refusal-room : {number room : ℕ} → number < 100 → 98416 ≤ room → 0 + length (refusalText number) ≤ room
+refusal-room {number} small most = omega (arith, refusal-most number small)
 
 pub found-room : (P : List ℕ) (k method : ℕ) (T : List ℕ) → Admitted P k method → length T ≤ 16384
     → length (outputText P k method (positions P k T) (steps P k method T .inspections)) ≤ 98416

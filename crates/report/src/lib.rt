@@ -49,10 +49,9 @@ fn answer_request(pattern: &[u8], k: u8, method: u8, text: &[u8], buffer: &mut [
     }
 }
 
-// Answers an input into a buffer that has room for every output.
-fn answer(input: &[u8], buffer: &mut [u8]) -> usize
-    requires { ⌜ 98416 ≤ length (now buffer) ⌝ }
-    ensures { λ r. ⌜ Written (now (buffer .entry)) 0 (output (now (input .entry))) (now (buffer .exit)) r ⌝ }
+// The program's output for an input, in the buffer's first bytes; says how many they are. No output is longer than 98,416 bytes.
+pub fn report(input: &[u8], buffer: &mut [u8; 98560]) -> usize
+    ensures { λ r. ⌜ Reported (now (input .entry)) (now (buffer .entry)) (now (buffer .exit)) r ⌝ }
 {
     match request::parse(input) {
         Parsed::TooLong => lines::write_refusal(6, buffer, 0),
@@ -71,11 +70,4 @@ fn answer(input: &[u8], buffer: &mut [u8]) -> usize
             buffer,
         ),
     }
-}
-
-// The program's output for an input, in the buffer's first bytes; says how many they are. No output is longer than 98,416 bytes.
-pub fn report(input: &[u8], buffer: &mut [u8; 98560]) -> usize
-    ensures { λ r. ⌜ Reported (now (input .entry)) (now (buffer .entry)) (now (buffer .exit)) r ⌝ }
-{
-    answer(input, buffer)
 }

@@ -76,8 +76,13 @@ module _ (input : List ℕ) where
         text-is = ap (λ (a : Asked). a .text) fields;
       }
 
--- ---- the text is no longer than the input
+-- ---- an input that is not too long, and its text
 
+pub not-long : (input : List ℕ) → tooLong input ≡ false → length input ≤ 16384
+unfolding tooLong
+not-long input e = ltb-false 16384 (length input) e
+
+-- the text is no longer than the input
 pub text-shorter : (input : List ℕ) → length (textOf input) ≤ length input
 unfolding textOf
 text-shorter input =
@@ -87,11 +92,3 @@ text-shorter input =
       ap length (after-drop 10 input),
       length-drop (length (before 10 input) + 1) input,
     )
-
--- the text of a request is no longer than the longest input
-pub request-fits : (input : List ℕ) {method k from lineEnd end : ℕ} → Requested input method k from lineEnd end
-    → length (part input (lineEnd + 1) end) ≤ 16384
-unfolding tooLong
-request-fits input q =
-    let short = ltb-false 16384 (length input) (q .short) in
-    omega (arith, ap length (q .text-is), text-shorter input)

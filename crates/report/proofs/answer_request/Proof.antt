@@ -1,8 +1,7 @@
 -- `report::answer_request` meets its contract: a whole search, and then its refusal's line or what it found.
 use borrow.Author.Needs.{needs}
-use native.Mathlib.Omega.{arith}
-use Rattle.lines.proofs.Lines.{refusal-most}
-use Rattle.report.proofs.Founds.{number-small, refused-text, found-inside, found-text, found-fits}
+use mathlib.Core.Path.{refl}
+use Rattle.report.proofs.Founds.{refused-fits, refused-text, found-inside, found-text, found-fits}
 use Rattle.report.proofs.answer_request.Statement.{statement}
 use Rattle.report.proofs.answer_request.Tie as tie
 
@@ -20,9 +19,10 @@ number-of-requires c κs = search needs
 
 write-refusal-requires : tie.Need-write-refusal-requires
 write-refusal-requires c κs =
-    let start = c .before .before .before .before .before .before .before .before .before .before .before in
-    let room = start .pre .1 in
-    omega (arith, refusal-most (c .before .number-of .result) (omega (arith, c .before .number-of .ensures, number-small (c .before .before .before .refusal .given .0 .0))))
+    let numbered = c .before in
+    let refused = numbered .before .before in
+    let start = refused .before .before .before .before .before .before .before .before in
+    refused-fits (refused .refusal .given .0 .0) (numbered .number-of .ensures) (start .pre .1)
 
 enum-known-found : tie.Need-enum-known-found
 enum-known-found c = search needs
@@ -36,8 +36,7 @@ write-found-requires c κs =
     let whole : tie.After-whole = listed .before .before .before in
     let start = whole .before .before .before .before .before in
     let w = rw (listed .found .given .1) at (whole .whole .ensures) in
-    let room = start .pre .1 in
-    (found-inside w (start .pre .0) (search needs), omega (arith, found-fits w (start .pre .0) (search needs)))
+    (found-inside w (start .pre .0) refl, found-fits w (start .pre .0) refl (start .pre .1))
 
 same-length : tie.Need-same-length
 same-length c = search needs
@@ -50,7 +49,7 @@ returns c =
     let whole : tie.After-whole = refused .before .before .before in
     let start = whole .before .before .before .before .before in
     let w = rw (refused .refusal .given .1) at (whole .whole .ensures) in
-    rw (refused-text w (start .pre .0) (search needs), ← numbered .number-of .ensures) (done .write-refusal .ensures)
+    rw (refused-text w (start .pre .0) refl, ← numbered .number-of .ensures) (done .write-refusal .ensures)
 
 same-length-2 : tie.Need-same-length-2
 same-length-2 c = search needs
@@ -62,7 +61,7 @@ returns-2 c =
     let whole : tie.After-whole = listed .before .before .before in
     let start = whole .before .before .before .before .before in
     let w = rw (listed .found .given .1) at (whole .whole .ensures) in
-    rw (found-text w (start .pre .0) (search needs)) (done .write-found .ensures)
+    rw (found-text w (start .pre .0) refl) (done .write-found .ensures)
 
 pub answer-request-spec : {M : Type 1} → statement M
 answer-request-spec =

@@ -1,14 +1,15 @@
--- `report::answer` meets its contract: the line of a refusal, or what the request asks for.
+-- `report::report` meets its contract: the line of a refusal, or what the request asks for.
 use borrow.Author.Needs.{needs}
 use native.Mathlib.Omega.{arith}
 use lib.Dec.{lit<}
+use lib.ListN.{length-take, length-drop}
 use Rattle.request.specs.Parsing.{Ordered, Parses}
 use Rattle.request.specs.declared.Parsed.the-variants.{Request}
-use Rattle.request.proofs.Answered.{Requested, parsed-long, parsed-bad, parsed-request, request-fits}
-use Rattle.lines.proofs.Lines.{refusal-most}
-use Rattle.report.proofs.Answers.{output-long, output-bad, request-output}
-use Rattle.report.proofs.answer.Statement.{statement}
-use Rattle.report.proofs.answer.Tie as tie
+use Rattle.request.proofs.Answered.{Requested, parsed-long, parsed-bad, parsed-request, not-long}
+use Rattle.report.proofs.Answers.{output-long, output-bad, request-output, reported}
+use Rattle.report.proofs.Room.{refusal-room}
+use Rattle.report.proofs.report.Statement.{statement}
+use Rattle.report.proofs.report.Tie as tie
 
 parse-requires : tie.Need-parse-requires
 parse-requires c κs = search needs
@@ -17,36 +18,32 @@ enum-told : tie.Need-enum-told
 enum-told c = search needs
 
 write-refusal-requires : tie.Need-write-refusal-requires
-write-refusal-requires c κs =
-    let room = c .before .before .before .before .before .before .pre in
-    omega (arith, refusal-most 6 (lit< tt))
+write-refusal-requires c κs = refusal-room (lit< tt) (search needs)
 
 enum-told-2 : tie.Need-enum-told-2
 enum-told-2 c = search needs
 
 write-refusal-requires-2 : tie.Need-write-refusal-requires-2
-write-refusal-requires-2 c κs =
-    let room = c .before .before .before .before .before .before .pre in
-    omega (arith, refusal-most 11 (lit< tt))
+write-refusal-requires-2 c κs = refusal-room (lit< tt) (search needs)
 
 enum-known-method : tie.Need-enum-known-method
 enum-known-method c = search needs
 
 -- what `parse` says of the request
-parsed : (c : tie.After-method) → Parses (c .before .before .before .before .before .args .input .now)
+parsed : (c : tie.After-method) → Parses (c .before .before .before .before .args .input .now)
     (Request (c .method .given .0 .0) (c .method .given .0 .1 .0) (c .method .given .0 .1 .1 .0) (c .method .given .0 .1 .1 .1 .0)
     (c .method .given .0 .1 .1 .1 .1 .0))
 parsed c = rw (c .method .given .1) at (c .before .before .parse .ensures)
 
 ordered : (c : tie.After-method)
-    → Ordered (c .before .before .before .before .before .args .input .now) (c .method .given .0 .1 .1 .0) (c .method .given .0 .1 .1 .1 .0)
+    → Ordered (c .before .before .before .before .args .input .now) (c .method .given .0 .1 .1 .0) (c .method .given .0 .1 .1 .1 .0)
     (c .method .given .0 .1 .1 .1 .1 .0)
 ordered c = parsed c .places
 
 requested : (c : tie.After-method)
-    → Requested (c .before .before .before .before .before .args .input .now) (c .method .given .0 .0) (c .method .given .0 .1 .0)
+    → Requested (c .before .before .before .before .args .input .now) (c .method .given .0 .0) (c .method .given .0 .1 .0)
     (c .method .given .0 .1 .1 .0) (c .method .given .0 .1 .1 .1 .0) (c .method .given .0 .1 .1 .1 .1 .0)
-requested c = parsed-request (c .before .before .before .before .before .args .input .now) (parsed c)
+requested c = parsed-request (c .before .before .before .before .args .input .now) (parsed c)
 
 sub-answer-request : tie.Need-sub-answer-request
 sub-answer-request c = ordered (c .before) .pattern
@@ -77,46 +74,36 @@ part-answer-request-start-2 c =
 part-answer-request-end-2 : tie.Need-part-answer-request-end-2
 part-answer-request-end-2 c = ordered (c .before .before) .within
 
+-- a part of the input is no longer than the input
 answer-request-requires : tie.Need-answer-request-requires
 answer-request-requires c κs =
     let asked : tie.After-method = c .before .before .before .before in
-    let start = asked .before .before .before .before .before in
-    (request-fits (start .args .input .now) (requested asked), start .pre)
-
-same-length : tie.Need-same-length
-same-length c = search needs
+    let short = not-long (asked .before .before .before .before .args .input .now) (requested asked .short) in
+    (simp (length-take, length-drop) (omega arith), search needs)
 
 returns : tie.Need-returns
 returns c =
-    let told = c .before .before .before .before in
+    let told = c .before .before in
     let parsing : tie.After-parse = told .before .before in
-    let input = parsing .before .before .before .args .input .now in
-    rw (output-long input (parsed-long input (rw (told .enum-told .given .1) at (parsing .parse .ensures))))
-    (c .before .before .write-refusal .ensures)
-
-same-length-2 : tie.Need-same-length-2
-same-length-2 c = search needs
+    let input = parsing .before .before .args .input .now in
+    reported (output-long input (parsed-long input (rw (told .enum-told .given .1) at (parsing .parse .ensures)))) (c .write-refusal .ensures)
 
 returns-2 : tie.Need-returns-2
 returns-2 c =
-    let told = c .before .before .before .before in
+    let told = c .before .before in
     let parsing : tie.After-parse = told .before .before in
-    let input = parsing .before .before .before .args .input .now in
+    let input = parsing .before .before .args .input .now in
     let tests = parsed-bad input (rw (told .enum-told2 .given .1) at (parsing .parse .ensures)) in
-    rw (output-bad input (tests .0) (tests .1))
-    (c .before .before .write-refusal2 .ensures)
-
-same-length-3 : tie.Need-same-length-3
-same-length-3 c = search needs
+    reported (output-bad input (tests .0) (tests .1)) (c .write-refusal2 .ensures)
 
 returns-3 : tie.Need-returns-3
 returns-3 c =
-    let asked : tie.After-method = c .before .before .before .before .before .before .before in
-    let input = asked .before .before .before .before .before .args .input .now in
-    rw (request-output input (requested asked)) (c .before .before .answer-request .ensures)
+    let asked : tie.After-method = c .before .before .before .before .before in
+    let input = asked .before .before .before .before .args .input .now in
+    reported (request-output input (requested asked)) (c .answer-request .ensures)
 
-pub answer-spec : {M : Type 1} → statement M
-answer-spec =
+pub report-spec : {M : Type 1} → statement M
+report-spec =
     tie.close
     (tie.spec
     parse-requires
@@ -133,9 +120,6 @@ answer-spec =
     part-answer-request-start-2
     part-answer-request-end-2
     answer-request-requires
-    same-length
     returns
-    same-length-2
     returns-2
-    same-length-3
     returns-3)
