@@ -27,6 +27,7 @@ pub struct Done {
     pub looks: usize,
 }
 
+// The smaller of two numbers.
 fn least(a: usize, b: usize) -> usize
     ensures { λ r. ⌜ r ≡ min a b ⌝ }
 {
