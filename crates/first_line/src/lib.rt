@@ -69,6 +69,7 @@ fn number(field: &[u8]) -> u8
 
 // The fields of the first line. The pattern stands from `from` on.
 pub enum FirstLine {
+    // Not of the form asked for: refused with 11.
     Bad,
     Fields { method: u8, k: u8, from: usize },
 }

@@ -4,7 +4,7 @@ ghost use Prim.Native.Nat.{_≤_};
 ghost use lib.ListN.{length};
 ghost use Rattle.admit.specs.Numbers.{numberOf};
 ghost use Rattle.decimals.specs.Buffer.{Written};
-ghost use Rattle.report.specs.Output.{answerText, output, Reported};
+ghost use Rattle.report.specs.Output.{answerText, Reported};
 use admit::Refusal;
 use request::LONGEST_INPUT;
 use request::Parsed;
