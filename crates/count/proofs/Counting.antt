@@ -3,7 +3,7 @@ use mathlib.Core.Path.{_≡_, refl, sym, ap, _∙_}
 use mathlib.Core.Bool.{Bool, true, false, cond}
 use mathlib.Core.List.{List, [], _∷_, _++_, append-nil}
 use Prim.Native.Nat.{ℕ, _+_, _-_, _≤_, _<_}
-use native.Mathlib.Nat.{add-comm, le-of-eq}
+use native.Mathlib.Nat.{add-comm}
 use native.Mathlib.Omega.{arith}
 use lib.Dec.{leb, eqb}
 use lib.ListN.{length, getD, set, replicate}
@@ -11,8 +11,8 @@ use mir.Val.{boolByte}
 use borrow.Author.Tests.{eq-eqb, eqb-true, le-leb, lt-leb}
 use Rattle.jumbled.specs.Match.{Bytes, bit, cc, excess, matches}
 use Rattle.jumbled.specs.Steps.{countJudged}
-use Rattle.jumbled.proofs.Sums.{sum-ext, sum-zeros}
-use Rattle.jumbled.proofs.Counts.{cc-cons, cc-append, cc-length, excess-nil, excess-cons, excess-append, excess-at}
+use Rattle.jumbled.proofs.Sums.{sum-ext}
+use Rattle.jumbled.proofs.Counts.{cc-cons, cc-append, cc-length, excess-nil, excess-cons, excess-append}
 use Rattle.parikh.specs.Table.{parikh}
 use Rattle.parikh.proofs.Tables.{tabulate-ext, tabulate-set}
 use Rattle.parikh.proofs.Parikh.{getD-parikh, parikh-nil, parikh-snoc}

@@ -1,6 +1,5 @@
 -- Laws of what is written into the buffer.
 use mathlib.Core.Path.{_≡_, refl, sym, ap, ap₂, subst, _∙_}
-use mathlib.Core.Bool.{false}
 use mathlib.Core.List.{List, [], _∷_, _++_}
 use Prim.Native.Nat.{ℕ, _+_, _≤_, _<_}
 use native.Mathlib.Nat.{zero-add}
@@ -10,10 +9,8 @@ use lib.ListN.{length, getD, take, drop, set, length-append, drop-of-length-le}
 use lib.Seq.{take-suc, drop-cons, length-take-le}
 use Rattle.listing.specs.Placed.{placed}
 use Rattle.listing.proofs.Placing.{placed-nil, length-placed, take-placed, placed-placed, placed-next}
-use Rattle.image.specs.Image.{Parts, partsWith, body, each, entries, image, IsOrder, saveOrder, Sized}
-use Rattle.image.specs.Decode.{badForm, partsOf}
+use Rattle.image.specs.Image.{Parts, partsWith, body, each, entries, image, IsOrder, saveOrder}
 use Rattle.encode.specs.Writing.{Put, Encoded, numbersWith, bodyFrom}
-use Rattle.image.proofs.Images.{image-taken, parts-back, save-order}
 
 -- one byte more of the source
 pub placed-byte : (list : List ℕ) (at : ℕ) (source : List ℕ) (i : ℕ) → at + i < length list → i < length source
@@ -63,13 +60,6 @@ encoded-first parts before after len encoded room =
     let written = image saveOrder parts in
     let all : len ≡ 0 + length written = omega (arith, encoded .length-given) in
     ap₂ (λ (n : ℕ) (l : List ℕ). take n l) all (encoded .filled) ∙ take-placed before 0 written (omega arith)
-
--- and what load finds in them is what was saved
-pub encoded-back : (parts : Parts) (before after : List ℕ) (len : ℕ) → Encoded parts before after len
-    → length (image saveOrder parts) ≤ length before → Sized parts → (badForm (take len after) ≡ false) × (partsOf (take len after) ≡ parts)
-encoded-back parts before after len encoded room sized =
-    let same = encoded-first parts before after len encoded room in
-    (ap badForm same ∙ image-taken save-order sized, ap partsOf same ∙ parts-back save-order sized)
 
 -- ---- a loop that writes what a function gives for each kind of an order
 

@@ -5,7 +5,7 @@ use mathlib.Core.List.{List, [], _∷_, _++_, map}
 use Prim.Native.Nat.{ℕ, zero, suc, _+_, _-_, _*_, _≤_, _<_, suc-le-suc}
 use native.Mathlib.Nat.{le-refl, mul-suc, le-step, add-zero, add-suc, suc-add, add-assoc, zero-add, suc-sub-suc, zero-sub, sub-zero}
 use native.Mathlib.Omega.{arith}
-use lib.ListN.{length, take, drop, length-take}
+use lib.ListN.{length, drop, length-take}
 use Rattle.jumbled.specs.Match.{window}
 use Rattle.jumbled.specs.Scan.{Result, nothing, note, Scanned, backward, standing, Judged, forward}
 
@@ -162,12 +162,6 @@ module _ (scanned : List ℕ → Scanned) (m : ℕ) (T : List ℕ) (d : ℕ) (U 
 -- ---- forward
 
 module _ (judged : List ℕ → Judged) (m : ℕ) (T : List ℕ) where
-  pub forward-at : (s left cost : ℕ)
-      → forward judged m T s (suc left) cost
-      ≡ note (judged (window m T s) .listed) s (cost + judged (window m T s) .verification) (forward judged m T (suc s) left 1)
-  unfolding forward
-  forward-at s left cost = refl
-
   pub forward-cut : (s a b : ℕ) → forward judged m T s (a + b) 1 ≡ forward judged m T s a 1 then forward judged m T (s + a) b 1
   unfolding forward
   forward-cut s zero b = rw (zero-add b, add-zero s) (sym (nothing-then (forward judged m T s b 1)))

@@ -1,12 +1,12 @@
 -- Laws of `rank`, `heapValue` and `exact`, byte by byte.
 use mathlib.Core.Path.{_≡_, refl, ap, _∙_}
-use mathlib.Core.Bool.{Bool, true, false, cond}
+use mathlib.Core.Bool.{Bool, true, false}
 use mathlib.Core.List.{List}
 use Prim.Native.Nat.{ℕ, _+_, _%_, _^_, _<_}
-use native.Mathlib.Nat.{add-zero, mod-lt}
+use native.Mathlib.Nat.{add-zero}
 use native.Mathlib.Numerals.{add-one}
 use native.Mathlib.Omega.{arith}
-use lib.Dec.{leb, lit<}
+use lib.Dec.{leb}
 use borrow.Author.Tests.{eq-eqb, ne-eqb}
 use Rattle.jumbled.specs.Match.{bit, cc, sum}
 use Rattle.jumbled.specs.Heap.{occurs, rank, base, heapValue, exact}
@@ -42,14 +42,6 @@ heapValue-some P c h = rw (occurs-some P c h) refl
 pub heapValue-none : (P : List ℕ) (c : ℕ) → cc P c ≡ 0 → heapValue P c ≡ 0
 unfolding heapValue
 heapValue-none P c h = rw (occurs-none P c h) refl
-
-pub heapValue-below : (P : List ℕ) (c : ℕ) → heapValue P c < 2 ^ 64
-unfolding heapValue
-heapValue-below P c = case (occurs P c)
-  where
-    case : (t : Bool) → cond t (base P ^ rank P c % 2 ^ 64) 0 < 2 ^ 64
-    case true = mod-lt (base P ^ rank P c) (lit< tt)
-    case false = lit< tt
 
 pub exact-rank : (P : List ℕ) → exact P ≡ leb (base P ^ rank P 256) (2 ^ 64)
 unfolding exact

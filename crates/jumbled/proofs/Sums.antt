@@ -75,10 +75,6 @@ sum-point (suc n) b d l =
 
 -- ---- some
 
-pub some-suc : (n : ℕ) (test : ℕ → Bool) → some (suc n) test ≡ (test n || some n test)
-unfolding some
-some-suc n test = refl
-
 pub some-ext : (n : ℕ) (f g : ℕ → Bool) → ((c : ℕ) → c < n → f c ≡ g c) → some n f ≡ some n g
 unfolding some
 some-ext zero f g h = refl

@@ -84,14 +84,6 @@ pack-and w u v (suc n) hu hv =
 
 -- ---- one field
 
-pub only-same : (f x : ℕ) → only f x f ≡ x
-unfolding only
-only-same f x = rw (eq-eqb f f refl)
-
-pub only-other : (f x g : ℕ) → (f ≡ g → ⊥) → only f x g ≡ 0
-unfolding only
-only-other f x g h = rw (ne-eqb f g h)
-
 -- a number in one field stands at that field's place
 pub pack-only : (w : ℕ → ℕ) (f x n : ℕ) → f < n → pack w (only f x) n ≡ x * 2 ^ sum f w
 unfolding only

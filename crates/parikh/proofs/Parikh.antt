@@ -13,11 +13,7 @@ use borrow.Author.Tests.{eqb-true}
 use Rattle.jumbled.specs.Match.{cc, bit}
 use Rattle.jumbled.proofs.Counts.{cc-nil, cc-cons, cc-append, cc-take, cc-length}
 use Rattle.parikh.specs.Table.{parikh}
-use Rattle.parikh.proofs.Tables.{length-tabulate, getD-tabulate, tabulate-ext, tabulate-replicate, tabulate-set}
-
-pub length-parikh : (U : List ℕ) → length (parikh U) ≡ 256
-unfolding parikh
-length-parikh U = length-tabulate 256 (cc U)
+use Rattle.parikh.proofs.Tables.{getD-tabulate, tabulate-ext, tabulate-replicate, tabulate-set}
 
 pub getD-parikh : (U : List ℕ) (c : ℕ) → c < 256 → getD (parikh U) c 0 ≡ cc U c
 unfolding parikh

@@ -8,7 +8,7 @@ use lib.Dec.{lit<, lit≤}
 use lib.Pow.{pow-pos}
 use lib.ListN.{getD, set}
 use Rattle.jumbled.specs.Match.{Bytes, cc}
-use Rattle.jumbled.specs.Fields.{Layout, layoutOf, shared, fields, widthOf}
+use Rattle.jumbled.specs.Fields.{Layout, layoutOf, shared, widthOf}
 use Rattle.jumbled.proofs.Counts.{cc-length, cc-out}
 use Rattle.jumbled.proofs.Overflow.{Roomy, width-shared, width-own}
 use Rattle.packed.proofs.Widths.{layout-roomy, count-is}
