@@ -16,10 +16,11 @@ use Rattle.listing.proofs.Placing.{length-placed, take-placed}
 use Rattle.admit.specs.Numbers.{numberOf}
 use Rattle.admit.specs.declared.Refusal.{Refusal}
 use Rattle.admit.specs.declared.Refusal.the-variants.{PatternLength, ToleranceTooLarge, UnknownMethod, ToleranceNotTaken, FieldsTooWide, TextTooLong, TooFewPlaces, TotalTooLarge, Malformed, BufferTooShort, BadRequest}
-use Rattle.search.specs.declared.Answer.the-variants.{Listed, Refused}
-use Rattle.search.specs.Answers.{unlessRefused}
-use Rattle.search.specs.Whole.{wholeNumber, Whole}
-use Rattle.search.proofs.Wholes.{number-positive, on-accepted, whole-number}
+use Rattle.whole.specs.declared.Answer.the-variants.{Listed, Refused}
+use Rattle.state.specs.Tests.{unlessRefused}
+use Rattle.whole.specs.Whole.{wholeNumber, Whole}
+use Rattle.state.proofs.Refused.{number-positive, on-accepted}
+use Rattle.whole.proofs.Wholes.{whole-number}
 use Rattle.lines.specs.Lines.{outputText, refusalText}
 use Rattle.report.specs.Output.{answerText}
 use Rattle.report.proofs.Room.{refusal-room, positions-few, found-room}

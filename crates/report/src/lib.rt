@@ -8,7 +8,7 @@ ghost use Rattle.report.specs.Output.{answerText, Reported};
 use admit::Refusal;
 use request::LONGEST_INPUT;
 use request::Parsed;
-use search::Answer;
+use whole::Answer;
 
 // The number that document 01 gives a refusal.
 fn number_of(refusal: Refusal) -> usize
@@ -35,7 +35,7 @@ fn answer_request(pattern: &[u8], k: u8, method: u8, text: &[u8], buffer: &mut [
     ensures { λ r. ⌜ Written (now (buffer .entry)) 0 (answerText (now (pattern .entry)) k method (now (text .entry))) (now (buffer .exit)) r ⌝ }
 {
     let mut list = [0u32; LONGEST_INPUT];
-    match search::whole(pattern, k, method, text, &mut list) {
+    match whole::whole(pattern, k, method, text, &mut list) {
         Answer::Refused(refusal) => lines::write_refusal(number_of(refusal), buffer, 0),
         Answer::Listed { found, looks } => lines::write_found(
             pattern,

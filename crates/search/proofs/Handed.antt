@@ -1,22 +1,25 @@
 -- The tests of a search handed in, and the answers of the calls that hand one back.
-use mathlib.Core.Path.{_≡_, refl, sym, _∙_}
-use mathlib.Core.Bool.{cond}
+use mathlib.Core.Path.{_≡_, refl, sym, ap, _∙_}
 use mathlib.Core.List.{List, [], _∷_}
 use Prim.Native.Nat.{ℕ, _≤_, _<_}
-use lib.ListN.{length}
+use native.Mathlib.Omega.{arith}
+use lib.ListN.{length, length-take}
 use borrow.Author.Tests.{lt-ltb, le-ltb, ltb-false, eqb-true, not-false}
 use Rattle.jumbled.specs.Match.{Bytes}
 use Rattle.jumbled.specs.Refusals.{test, given, patternTests, methodTests, searchTests, setMethodTests}
 use Rattle.jumbled.proofs.Admission.{Numbered, none, next, given-none, given-append, given-append-none, numbered-append, pattern-numbered}
-use Rattle.admit.specs.Numbers.{numberOf}
+use Rattle.admit.specs.Numbers.{admissionNumber}
 use Rattle.admit.specs.declared.Refusal.{Refusal}
+use Rattle.admit.specs.declared.Admission.{Admission}
 use Rattle.admit.specs.declared.Admission.the-variants.{Accepted, Refused}
-use Rattle.image.specs.Image.{partsWith}
+use Rattle.image.specs.Image.{Parts, partsWith}
+use Rattle.state.specs.Stored.{tailLength}
+use Rattle.state.specs.Tests.{wrongTail, partsNumber, unlessRefused}
+use Rattle.state.proofs.Refused.{on-refusal, on-accepted, still-refused, tested-later, parts-fresh}
 use Rattle.search.specs.declared.Search.{Search}
-use Rattle.search.specs.Answers.{unlessRefused}
-use Rattle.search.specs.Searches.{patternOf, stored, blank, tailLength, badTail}
-use Rattle.search.specs.Calls.{handedTests, handedNumber, openNumber, Opened, setMethodNumber, withMethod, SetsMethod}
-use Rattle.search.proofs.Wholes.{on-refusal, on-accepted}
+use Rattle.search.specs.declared.Held.{Held}
+use Rattle.search.specs.Searches.{patternOf, tailOf, stored, blank, badTail}
+use Rattle.search.specs.Calls.{handedTests, handedNumber, openNumber, Opened, setMethodNumber, withMethod, SetsMethod, numberOfParts, HeldWith}
 
 -- ---- the tests of a search handed in
 
@@ -28,25 +31,13 @@ pub handed-long : (s : Search) → 64 < s .«pattern_len» → handedNumber s �
 unfolding handedNumber handedTests given
 handed-long s h = rw (lt-ltb 64 (s .«pattern_len») h) refl
 
-pub handed-short : (s : Search) → s .«pattern_len» ≤ 64
-    → handedNumber s ≡ unlessRefused (given (patternTests (patternOf s) (s .k) (s .method))) (cond (badTail s) 9 0) (given (patternTests (patternOf s) (s .k) (s .method)))
-unfolding handedNumber handedTests searchTests given
-handed-short s h =
-    rw (le-ltb 64 (s .«pattern_len») h)
-    (given-append (patternTests (patternOf s) (s .k) (s .method)) (test 9 (badTail s) ∷ []) (pattern-numbered (patternOf s) (s .k) (s .method)))
-
-module _ (s : Search) (short : s .«pattern_len» ≤ 64) where
-  -- one of 1 to 5 applies
-  pub handed-early : (refusal : Refusal) → numberOf refusal ≡ given (patternTests (patternOf s) (s .k) (s .method)) → numberOf refusal ≡ handedNumber s
-  handed-early refusal e =
-      e ∙ on-refusal refusal (given (patternTests (patternOf s) (s .k) (s .method))) (cond (badTail s) 9 0) (given (patternTests (patternOf s) (s .k) (s .method))) e
-      ∙ sym (handed-short s short)
-
-  -- none of them does
-  pub handed-late : given (patternTests (patternOf s) (s .k) (s .method)) ≡ 0 → handedNumber s ≡ cond (badTail s) 9 0
-  handed-late e =
-      handed-short s short
-      ∙ sym (on-accepted (given (patternTests (patternOf s) (s .k) (s .method))) (cond (badTail s) 9 0) (given (patternTests (patternOf s) (s .k) (s .method))) e)
+pub handed-short : (s : Search) → s .«pattern_len» ≤ 64 → length (s .pattern) ≡ 64
+    → handedNumber s ≡ partsNumber (patternOf s) (s .k) (s .method) (s .total) (s .«tail_len»)
+unfolding handedNumber handedTests given partsNumber
+handed-short s short long =
+    let m : s .«pattern_len» ≡ length (patternOf s) = omega (arith, length-take (s .«pattern_len») (s .pattern)) in
+    rw (le-ltb 64 (s .«pattern_len») short)
+    (ap (λ (n : ℕ). given (searchTests (patternOf s) (s .k) (s .method) (wrongTail n (s .total) (s .«tail_len»)))) m)
 
 -- what it says that none of them applies
 pub record Sound (s : Search) : Type 0 where
@@ -68,24 +59,40 @@ sound s e =
 -- the stored bytes of a search handed in
 pub record Stored (held : Search) : Type 0 where
   pub pattern-long : length (held .pattern) ≡ 64
-  pub tail-long : length (held .tail) ≡ 63
   pub pattern-bytes : Bytes (held .pattern)
   pub tail-bytes : Bytes (held .tail)
 
--- ---- open
+-- then the lengths that it says are those of its pattern and its tail
+module _ {held : Search} (right : Sound held) where
+  pub pattern-length : length (held .pattern) ≡ 64 → length (patternOf held) ≡ held .«pattern_len»
+  pattern-length long = omega (arith, length-take (held .«pattern_len») (held .pattern), right .short)
 
-module _ (P : List ℕ) (k method : ℕ) where
-  pub opened-refused : (refusal : Refusal) → numberOf refusal ≡ given (patternTests P k method)
-      → Opened P k method (record { admission = Refused refusal; search = blank })
-  unfolding openNumber
-  opened-refused refusal e =
-      record { number = e; search = on-refusal refusal (given (patternTests P k method)) (stored (partsWith P k method 0 [])) blank e }
+  pub tail-fits : held .«tail_len» ≤ 63
+  tail-fits = omega (arith, right .short, right .tail-right)
 
-  pub opened-accepted : given (patternTests P k method) ≡ 0
-      → Opened P k method (record { admission = Accepted; search = stored (partsWith P k method 0 []) })
-  unfolding openNumber
-  opened-accepted e =
-      record { number = sym e; search = on-accepted (given (patternTests P k method)) (stored (partsWith P k method 0 [])) blank e }
+  pub tail-length : length (held .tail) ≡ 63 → length (tailOf held) ≡ held .«tail_len»
+  tail-length long = omega (arith, length-take (held .«tail_len») (held .tail), tail-fits)
+
+-- ---- the search with given parts
+
+module _ (parts : Parts) (admission : Admission) (e : admissionNumber admission ≡ numberOfParts parts) where
+  pub held-refused : (refusal : Refusal) → admission ≡ Refused refusal → HeldWith parts (record { admission = admission; search = blank })
+  held-refused refusal refused =
+      record { number = e; search = on-refusal refusal (numberOfParts parts) (stored parts) blank (ap admissionNumber (sym refused) ∙ e) }
+
+  pub held-accepted : admission ≡ Accepted → HeldWith parts (record { admission = admission; search = stored parts })
+  held-accepted accepted =
+      record { number = e; search = on-accepted (numberOfParts parts) (stored parts) blank (sym e ∙ ap admissionNumber accepted) }
+
+-- a fresh search is the one with nothing searched
+pub opened : (P : List ℕ) (k method : ℕ) (r : Held) → HeldWith (partsWith P k method 0 []) r → Opened P k method r
+unfolding openNumber
+opened P k method r held =
+    let fresh = parts-fresh P k method in
+    record {
+      number = held .number ∙ fresh;
+      search = held .search ∙ ap (λ (n : ℕ). unlessRefused n (stored (partsWith P k method 0 [])) blank) fresh;
+    }
 
 -- ---- set method
 
@@ -94,28 +101,32 @@ module _ (s : Search) (newMethod : ℕ) where
   unfolding setMethodNumber setMethodTests handedNumber handedTests
   set-method-number = given-append (handedTests s) (methodTests (patternOf s) (s .k) newMethod) (handed-numbered s)
 
-  -- a refusal changes nothing
-  method-refused : (refusal : Refusal) → numberOf refusal ≡ setMethodNumber s newMethod
-      → SetsMethod s newMethod (record { admission = Refused refusal; search = s })
-  method-refused refusal e =
-      record { number = e; search = on-refusal refusal (setMethodNumber s newMethod) (withMethod s newMethod) s e }
+  module _ (admission : Admission) where
+    -- a refusal changes nothing
+    method-refused : (refusal : Refusal) → admission ≡ Refused refusal → admissionNumber admission ≡ setMethodNumber s newMethod
+        → SetsMethod s newMethod (record { admission = admission; search = s })
+    method-refused refusal refused e =
+        record {
+          number = e;
+          search = on-refusal refusal (setMethodNumber s newMethod) (withMethod s newMethod) s (ap admissionNumber (sym refused) ∙ e);
+        }
 
-  pub method-refused-early : (refusal : Refusal) → numberOf refusal ≡ handedNumber s
-      → SetsMethod s newMethod (record { admission = Refused refusal; search = s })
-  method-refused-early refusal e =
-      method-refused refusal
-      (e ∙ on-refusal refusal (handedNumber s) (given (methodTests (patternOf s) (s .k) newMethod)) (handedNumber s) e ∙ sym set-method-number)
+    pub method-refused-early : (refusal : Refusal) → admission ≡ Refused refusal → admissionNumber admission ≡ handedNumber s
+        → SetsMethod s newMethod (record { admission = admission; search = s })
+    method-refused-early refusal refused e =
+        method-refused refusal refused (still-refused _ _ admission refusal refused e ∙ sym set-method-number)
 
-  late : handedNumber s ≡ 0 → setMethodNumber s newMethod ≡ given (methodTests (patternOf s) (s .k) newMethod)
-  late e =
-      set-method-number ∙ sym (on-accepted (handedNumber s) (given (methodTests (patternOf s) (s .k) newMethod)) (handedNumber s) e)
+    module _ (right : handedNumber s ≡ 0) (e : admissionNumber admission ≡ given (methodTests (patternOf s) (s .k) newMethod)) where
+      late : admissionNumber admission ≡ setMethodNumber s newMethod
+      late = e ∙ tested-later _ _ right ∙ sym set-method-number
 
-  pub method-refused-late : (refusal : Refusal) → handedNumber s ≡ 0 → numberOf refusal ≡ given (methodTests (patternOf s) (s .k) newMethod)
-      → SetsMethod s newMethod (record { admission = Refused refusal; search = s })
-  method-refused-late refusal right e = method-refused refusal (e ∙ sym (late right))
+      pub method-refused-late : (refusal : Refusal) → admission ≡ Refused refusal
+          → SetsMethod s newMethod (record { admission = admission; search = s })
+      method-refused-late refusal refused = method-refused refusal refused late
 
-  pub method-set : handedNumber s ≡ 0 → given (methodTests (patternOf s) (s .k) newMethod) ≡ 0
-      → SetsMethod s newMethod (record { admission = Accepted; search = withMethod s newMethod })
-  method-set right e =
-      let none : setMethodNumber s newMethod ≡ 0 = late right ∙ e in
-      record { number = sym none; search = on-accepted (setMethodNumber s newMethod) (withMethod s newMethod) s none }
+      pub method-set : admission ≡ Accepted → SetsMethod s newMethod (record { admission = admission; search = withMethod s newMethod })
+      method-set accepted =
+          record {
+            number = late;
+            search = on-accepted (setMethodNumber s newMethod) (withMethod s newMethod) s (sym late ∙ ap admissionNumber accepted);
+          }

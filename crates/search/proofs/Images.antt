@@ -2,40 +2,44 @@
 use mathlib.Core.Path.{_≡_, refl, sym, ap, _∙_}
 use mathlib.Core.Bool.{Bool, true, false, cond}
 use mathlib.Core.List.{List, [], _∷_}
-use Prim.Native.Nat.{ℕ, _≤_, _<_}
+use Prim.Native.Nat.{ℕ, _+_, _≤_, _<_}
+use native.Mathlib.Omega.{arith}
 use lib.Dec.{ltb}
 use lib.ListN.{length}
 use borrow.Author.Tests.{lt-ltb, le-ltb}
-use Rattle.jumbled.specs.Refusals.{test, given, patternTests, searchTests, saveTests, loadTests}
-use Rattle.jumbled.proofs.Admission.{given-append, pattern-numbered}
+use Rattle.jumbled.specs.Refusals.{test, given, saveTests, loadTests}
+use Rattle.jumbled.proofs.Admission.{given-append}
 use Rattle.listing.specs.Placed.{placed}
-use Rattle.image.specs.Image.{Parts}
 use Rattle.image.specs.Decode.{badForm, partsOf}
+use Rattle.image.proofs.Images.{length-image, save-order}
 use Rattle.encode.specs.Writing.{Encoded}
 use Rattle.admit.specs.Numbers.{numberOf}
 use Rattle.admit.specs.declared.Refusal.{Refusal}
 use Rattle.admit.specs.declared.Refusal.the-variants.{Malformed, BufferTooShort}
-use Rattle.admit.specs.declared.Admission.the-variants.{Accepted, Refused}
+use Rattle.admit.specs.declared.Admission.the-variants.{Refused}
+use Rattle.state.specs.Tests.{partsNumber, unlessRefused}
+use Rattle.state.proofs.Refused.{on-refusal, on-accepted, still-refused, tested-later}
 use Rattle.search.specs.declared.Search.{Search}
 use Rattle.search.specs.declared.Held.{Held}
 use Rattle.search.specs.declared.Saving.the-variants as Saving
-use Rattle.search.specs.Answers.{unlessRefused}
 use Rattle.search.specs.Searches.{partsOfSearch, stored, blank}
-use Rattle.search.specs.Calls.{handedTests, handedNumber, imageOf, saveNumber, Saves, badTailIn, partsNumber, HeldWith, loadNumber, Loads}
-use Rattle.search.proofs.Wholes.{on-refusal, on-accepted}
-use Rattle.search.proofs.Handed.{handed-numbered}
+use Rattle.search.specs.Calls.{handedTests, handedNumber, imageOf, saveNumber, Saves, HeldWith, loadNumber, Loads}
+use Rattle.search.proofs.Handed.{handed-numbered, Sound, pattern-length, tail-length}
 
 -- ---- save
+
+-- how long the image is
+pub image-length : {held : Search} → Sound held → length (held .pattern) ≡ 64 → length (held .tail) ≡ 63
+    → length (imageOf held) ≡ 13 + 6 + held .«pattern_len» + held .«tail_len»
+image-length {held} right long tail-long =
+    omega (arith, length-image (partsOfSearch held) save-order, pattern-length right long, tail-length right tail-long)
 
 module _ (s : Search) (buffer : List ℕ) where
   save-number : saveNumber s buffer ≡ unlessRefused (handedNumber s) (cond (ltb (length buffer) (length (imageOf s))) 10 0) (handedNumber s)
   unfolding saveNumber saveTests handedNumber handedTests given
   save-number = given-append (handedTests s) (test 10 (ltb (length buffer) (length (imageOf s))) ∷ []) (handed-numbered s)
 
-  late : handedNumber s ≡ 0 → saveNumber s buffer ≡ cond (ltb (length buffer) (length (imageOf s))) 10 0
-  late e =
-      save-number ∙ sym (on-accepted (handedNumber s) (cond (ltb (length buffer) (length (imageOf s))) 10 0) (handedNumber s) e)
-
+  -- a refusal leaves the buffer as it was
   saved-refused : (refusal : Refusal) → numberOf refusal ≡ saveNumber s buffer
       → Saves s buffer buffer (record { saving = Saving.Refused refusal; search = s })
   saved-refused refusal e =
@@ -48,60 +52,27 @@ module _ (s : Search) (buffer : List ℕ) where
 
   pub saved-refused-early : (refusal : Refusal) → numberOf refusal ≡ handedNumber s
       → Saves s buffer buffer (record { saving = Saving.Refused refusal; search = s })
-  saved-refused-early refusal e =
-      saved-refused refusal
-      (e ∙ on-refusal refusal (handedNumber s) (cond (ltb (length buffer) (length (imageOf s))) 10 0) (handedNumber s) e ∙ sym save-number)
+  saved-refused-early refusal e = saved-refused refusal (still-refused _ _ (Refused refusal) refusal refl e ∙ sym save-number)
 
-  pub saved-short : handedNumber s ≡ 0 → length buffer < length (imageOf s)
-      → Saves s buffer buffer (record { saving = Saving.Refused BufferTooShort; search = s })
-  saved-short right h =
-      saved-refused BufferTooShort (sym (late right ∙ ap (λ (t : Bool). cond t 10 0) (lt-ltb (length buffer) (length (imageOf s)) h)))
+  module _ (right : handedNumber s ≡ 0) where
+    late : cond (ltb (length buffer) (length (imageOf s))) 10 0 ≡ saveNumber s buffer
+    late = tested-later _ _ right ∙ sym save-number
 
-  pub saved-written : handedNumber s ≡ 0 → length (imageOf s) ≤ length buffer → (after : List ℕ) (len : ℕ) → Encoded (partsOfSearch s) buffer after len
-      → Saves s buffer after (record { saving = Saving.Written len; search = s })
-  saved-written right h after len encoded =
-      let none : saveNumber s buffer ≡ 0 = late right ∙ ap (λ (t : Bool). cond t 10 0) (le-ltb (length buffer) (length (imageOf s)) h) in
-      record {
-        number = sym none;
-        len = encoded .length-given ∙ on-accepted (saveNumber s buffer) (length (imageOf s)) 0 none;
-        buffer = encoded .filled ∙ on-accepted (saveNumber s buffer) (placed buffer 0 (imageOf s)) buffer none;
-        search = refl;
-      }
+    pub saved-short : length buffer < length (imageOf s)
+        → Saves s buffer buffer (record { saving = Saving.Refused BufferTooShort; search = s })
+    saved-short h =
+        saved-refused BufferTooShort (ap (λ (t : Bool). cond t 10 0) (sym (lt-ltb (length buffer) (length (imageOf s)) h)) ∙ late)
 
--- ---- the search with given parts
-
-module _ (parts : Parts) where
-  parts-number : partsNumber parts
-      ≡ unlessRefused (given (patternTests (parts .pattern) (parts .k) (parts .method))) (cond (badTailIn parts) 9 0) (given (patternTests (parts .pattern) (parts .k) (parts .method)))
-  unfolding partsNumber searchTests given
-  parts-number =
-      given-append (patternTests (parts .pattern) (parts .k) (parts .method)) (test 9 (badTailIn parts) ∷ [])
-      (pattern-numbered (parts .pattern) (parts .k) (parts .method))
-
-  held-refused : (refusal : Refusal) → numberOf refusal ≡ partsNumber parts → HeldWith parts (record { admission = Refused refusal; search = blank })
-  held-refused refusal e = record { number = e; search = on-refusal refusal (partsNumber parts) (stored parts) blank e }
-
-  pub held-refused-early : (refusal : Refusal) → numberOf refusal ≡ given (patternTests (parts .pattern) (parts .k) (parts .method))
-      → HeldWith parts (record { admission = Refused refusal; search = blank })
-  held-refused-early refusal e =
-      held-refused refusal
-      (e ∙ on-refusal refusal (given (patternTests (parts .pattern) (parts .k) (parts .method))) (cond (badTailIn parts) 9 0) (given (patternTests (parts .pattern) (parts .k) (parts .method))) e
-      ∙ sym parts-number)
-
-  tail-tested : given (patternTests (parts .pattern) (parts .k) (parts .method)) ≡ 0 → partsNumber parts ≡ cond (badTailIn parts) 9 0
-  tail-tested e =
-      parts-number
-      ∙ sym (on-accepted (given (patternTests (parts .pattern) (parts .k) (parts .method))) (cond (badTailIn parts) 9 0) (given (patternTests (parts .pattern) (parts .k) (parts .method))) e)
-
-  pub held-bad-tail : given (patternTests (parts .pattern) (parts .k) (parts .method)) ≡ 0 → badTailIn parts ≡ true
-      → HeldWith parts (record { admission = Refused Malformed; search = blank })
-  held-bad-tail e bad = held-refused Malformed (sym (tail-tested e ∙ ap (λ (t : Bool). cond t 9 0) bad))
-
-  pub held-accepted : given (patternTests (parts .pattern) (parts .k) (parts .method)) ≡ 0 → badTailIn parts ≡ false
-      → HeldWith parts (record { admission = Accepted; search = stored parts })
-  held-accepted e good =
-      let none : partsNumber parts ≡ 0 = tail-tested e ∙ ap (λ (t : Bool). cond t 9 0) good in
-      record { number = sym none; search = on-accepted (partsNumber parts) (stored parts) blank none }
+    pub saved-written : length (imageOf s) ≤ length buffer → (after : List ℕ) (len : ℕ) → Encoded (partsOfSearch s) buffer after len
+        → Saves s buffer after (record { saving = Saving.Written len; search = s })
+    saved-written h after len encoded =
+        let none : saveNumber s buffer ≡ 0 = sym late ∙ ap (λ (t : Bool). cond t 10 0) (le-ltb (length buffer) (length (imageOf s)) h) in
+        record {
+          number = sym none;
+          len = encoded .length-given ∙ on-accepted (saveNumber s buffer) (length (imageOf s)) 0 none;
+          buffer = encoded .filled ∙ on-accepted (saveNumber s buffer) (placed buffer 0 (imageOf s)) buffer none;
+          search = refl;
+        }
 
 -- ---- load
 

@@ -1,5 +1,3 @@
-pub mod Wholes
-pub mod Padding
 pub mod Handed
 pub mod Feeding
 pub mod Images

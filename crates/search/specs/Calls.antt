@@ -1,26 +1,28 @@
 -- What each call says: document 01, "A search and its calls" and "When a call says no". Each record has an equation for every result.
 use mathlib.Core.Path.{_≡_}
-use mathlib.Core.Bool.{Bool, not}
+use mathlib.Core.Bool.{Bool}
 use mathlib.Core.List.{List, [], _∷_, _++_}
 use Prim.Native.Nat.{ℕ, _+_, _-_, _≤_}
-use lib.Dec.{eqb, ltb}
+use lib.Dec.{ltb}
 use lib.ListN.{length}
 use Rattle.jumbled.specs.Match.{positions}
 use Rattle.jumbled.specs.Steps.{steps}
-use Rattle.jumbled.specs.Refusals.{Test, test, given, patternTests, searchTests, feedTests, setMethodTests, saveTests, loadTests}
+use Rattle.jumbled.specs.Refusals.{Test, given, patternTests, searchTests, feedTests, setMethodTests, saveTests, loadTests}
 use Rattle.listing.specs.Placed.{placed, shifted}
 use Rattle.image.specs.Image.{Parts, partsWith, image, saveOrder}
 use Rattle.image.specs.Decode.{badForm, partsOf}
 use Rattle.admit.specs.Numbers.{numberOf, admissionNumber}
+use Rattle.state.specs.Stored.{lastOf, tailLength}
+use Rattle.state.specs.Tests.{wrongTail, partsNumber, unlessRefused}
+use Rattle.whole.specs.Answers.{answerNumber, answerFound, answerLooks}
+use Rattle.whole.specs.Whole.{tooLong, tooFewPlaces}
 use Rattle.search.specs.declared.Search.{Search}
 use Rattle.search.specs.declared.Held.{Held}
 use Rattle.search.specs.declared.Fed.{Fed}
 use Rattle.search.specs.declared.Kept.{Kept}
 use Rattle.search.specs.declared.Saving.{Saving}
 use Rattle.search.specs.declared.Saving.the-variants as Saving
-use Rattle.search.specs.Answers.{answerNumber, answerFound, answerLooks, unlessRefused}
-use Rattle.search.specs.Whole.{tooLong, tooFewPlaces}
-use Rattle.search.specs.Searches.{patternOf, tailOf, partsOfSearch, stored, blank, lastOf, tailLength, badTail, tooLongPattern}
+use Rattle.search.specs.Searches.{patternOf, tailOf, partsOfSearch, stored, blank, badTail, tooLongPattern}
 
 -- The tests of a search handed in: "1 to 5, then 9 if the tail length isn't min(n, m − 1)"
 unfoldable pub handedTests : Search → List Test
@@ -46,11 +48,6 @@ feedNumber s chunk list =
     given
     (tooLongPattern s
     ∷ feedTests (patternOf s) (s .k) (s .method) (badTail s) (tooLong chunk) (tooFewPlaces chunk list) (ltb 4294967295 (s .total + length chunk)))
-
--- 6, 7 and 8 alone, of a chunk's length, the list's and n
-unfoldable pub limitNumber : ℕ → ℕ → ℕ → ℕ
-limitNumber total chunk places =
-    given (test 6 (ltb 65536 chunk) ∷ test 7 (ltb places chunk) ∷ test 8 (ltb 4294967295 (total + chunk)) ∷ [])
 
 -- "those of the set method over the tail followed by the piece"
 abbrev pub reached : Search → List ℕ → List ℕ
@@ -134,16 +131,16 @@ pub record Saves (s : Search) (before after : List ℕ) (r : Kept) : Type 0 wher
 
 -- 9 for the tail of what an image holds
 abbrev pub badTailIn : Parts → Bool
-badTailIn parts = not (eqb (length (parts .tail)) (tailLength (length (parts .pattern)) (parts .total)))
+badTailIn parts = wrongTail (length (parts .pattern)) (parts .total) (length (parts .tail))
 
 -- 1 to 5 of what it holds, then 9 for the tail
-unfoldable pub partsNumber : Parts → ℕ
-partsNumber parts = given (searchTests (parts .pattern) (parts .k) (parts .method) (badTailIn parts))
+abbrev pub numberOfParts : Parts → ℕ
+numberOfParts parts = partsNumber (parts .pattern) (parts .k) (parts .method) (parts .total) (length (parts .tail))
 
 -- The search with these parts, or the blank one
 pub record HeldWith (parts : Parts) (r : Held) : Type 0 where
-  pub number : admissionNumber (r .admission) ≡ partsNumber parts
-  pub search : r .search ≡ unlessRefused (partsNumber parts) (stored parts) blank
+  pub number : admissionNumber (r .admission) ≡ numberOfParts parts
+  pub search : r .search ≡ unlessRefused (numberOfParts parts) (stored parts) blank
 
 unfoldable pub loadNumber : List ℕ → ℕ
 loadNumber bytes =

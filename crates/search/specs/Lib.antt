@@ -1,4 +1,2 @@
-pub mod Answers
-pub mod Whole
 pub mod Searches
 pub mod Calls

@@ -1,22 +1,21 @@
 // Searches: document 01, "A search and its calls".
 
 ghost use mathlib.Core.Path.{_≡_};
-ghost use mathlib.Core.List.{_++_};
-ghost use Prim.Native.Nat.{_+_, _≤_};
+ghost use Prim.Native.Nat.{_-_};
 ghost use lib.ListN.{length};
-ghost use Rattle.search.specs.Whole.{Whole};
+ghost use Rattle.jumbled.specs.Steps.{steps};
+ghost use Rattle.pieces.specs.Joined.{Found};
 ghost use Rattle.image.specs.Image.{partsWith};
 ghost use Rattle.admit.specs.Numbers.{admissionNumber};
-ghost use Rattle.search.specs.Searches.{padded, stored, lastOf, tailLength};
-ghost use Rattle.search.specs.Calls.{handedNumber, Opened, Advancing, fedParts, limitNumber, Feeds, SetsMethod, Saves, HeldWith, Loads};
+ghost use Rattle.state.specs.Tests.{limitNumber};
+ghost use Rattle.search.specs.Searches.{patternOf, stored};
+ghost use Rattle.search.specs.Calls.{handedNumber, Opened, Advancing, reached, fedParts, Feeds, SetsMethod, Saves, HeldWith, Loads};
 use admit::Admission;
 use admit::Refusal;
-
-// What a search of a text or of a chunk answers.
-pub enum Answer {
-    Listed { found: usize, looks: usize },
-    Refused(Refusal),
-}
+use pieces::Done;
+// Whole search has a crate of its own; its names are here too.
+pub use whole::Answer;
+pub use whole::whole;
 
 // A search that goes on from chunk to chunk. Bytes past the lengths are no part of it.
 pub struct Search {
@@ -55,69 +54,11 @@ pub struct Kept {
     pub search: Search,
 }
 
-// Whole search: all of the text at once, its positions in the list's first places.
-pub fn whole(pattern: &[u8], k: u8, method: u8, text: &[u8], list: &mut [u32]) -> Answer
-    ensures { λ r. ⌜ Whole (now (pattern .entry)) k method (now (text .entry)) (now (list .entry)) (now (list .exit)) r ⌝ }
-{
-    let admission = admit::admit(pattern, k, method);
-    if let Admission::Refused(refusal) = admission {
-        return Answer::Refused(refusal);
-    }
-    if Search::LONGEST_CHUNK < text.len() {
-        return Answer::Refused(Refusal::TextTooLong);
-    }
-    if list.len() < text.len() {
-        return Answer::Refused(Refusal::TooFewPlaces);
-    }
-    let no_tail = &text[..0];
-    let done = pieces::search_pieces(pattern, k, method, no_tail, text, 0, list);
-    Answer::Listed {
-        found: done.found,
-        looks: done.looks,
-    }
-}
-
-// Source in the first places of an array of 64, the others 0.
-fn stored_pattern(source: &[u8]) -> [u8; 64]
-    requires { ⌜ length (now source) ≤ 64 ⌝ }
-    ensures { λ r. ⌜ r ≡ padded 64 (now (source .entry)) ⌝ }
-{
-    let mut bytes = [0u8; 64];
-    encode::copy_in(source, &mut bytes, 0);
-    bytes
-}
-
-// The last keep bytes of the tail followed by the chunk, the other places 0.
-fn next_tail(tail: &[u8], chunk: &[u8], keep: usize) -> [u8; 63]
-    requires { ⌜ (keep ≤ 63) × (keep ≤ length (now tail) + length (now chunk)) ⌝ }
-    ensures { λ r. ⌜ r ≡ padded 63 (lastOf keep (now (tail .entry) ++ now (chunk .entry))) ⌝ }
-{
-    let mut bytes = [0u8; 63];
-    if keep <= chunk.len() {
-        let from = chunk.len() - keep;
-        encode::copy_in(&chunk[from..], &mut bytes, 0);
-        return bytes;
-    }
-    let from = tail.len() + chunk.len() - keep;
-    let at = encode::copy_in(&tail[from..], &mut bytes, 0);
-    encode::copy_in(chunk, &mut bytes, at);
-    bytes
-}
-
-// The length of the tail after total bytes, for a pattern of m: what a window that ends in the next chunk can reach.
-fn tail_length(m: usize, total: usize) -> usize
-    requires { ⌜ 1 ≤ m ⌝ }
-    ensures { λ r. ⌜ r ≡ tailLength m total ⌝ }
-{
-    let reach = m - 1;
-    if total < reach { total } else { reach }
-}
-
 impl Search {
     // The longest pattern,
     pub const LONGEST_PATTERN: usize = 64;
     // the longest text or chunk,
-    pub const LONGEST_CHUNK: usize = 65536;
+    pub const LONGEST_CHUNK: usize = state::LONGEST_TEXT;
     // and the blank search.
     pub const BLANK: Search = Search {
         pattern: [0; 64],
@@ -129,30 +70,58 @@ impl Search {
         tail_len: 0,
     };
 
+    // The search with these parts, if they pass the tests of a search: 1 to 5, then 9.
+    fn with_parts(pattern: &[u8], k: u8, method: u8, total: u32, tail: &[u8]) -> Held
+        ensures { λ r. ⌜ HeldWith (partsWith (now (pattern .entry)) k method total (now (tail .entry))) r ⌝ }
+    {
+        let admission = state::admit_parts(pattern, k, method, total, tail.len());
+        if let Admission::Refused(_) = admission {
+            return Held {
+                admission,
+                search: Search::BLANK,
+            };
+        }
+        let pattern_bytes = state::stored_pattern(pattern);
+        let tail_bytes = state::stored_tail(tail);
+        Held {
+            admission,
+            search: Search {
+                pattern: pattern_bytes,
+                pattern_len: pattern.len(),
+                k,
+                method,
+                total,
+                tail: tail_bytes,
+                tail_len: tail.len(),
+            },
+        }
+    }
+
     // A search for a pattern, of nothing yet.
     pub fn open(pattern: &[u8], k: u8, method: u8) -> Held
         ensures { λ r. ⌜ Opened (now (pattern .entry)) k method r ⌝ }
     {
-        let admission = admit::admit(pattern, k, method);
-        if let Admission::Refused(refusal) = admission {
+        let no_tail = &pattern[..0];
+        Search::with_parts(pattern, k, method, 0, no_tail)
+    }
+
+    // The search that an image holds, whatever the order of its entries.
+    pub fn load(bytes: &[u8]) -> Held
+        ensures { λ r. ⌜ Loads (now (bytes .entry)) r ⌝ }
+    {
+        if !decode::well_formed(bytes) {
             return Held {
-                admission: Admission::Refused(refusal),
+                admission: Admission::Refused(Refusal::Malformed),
                 search: Search::BLANK,
             };
         }
-        let bytes = stored_pattern(pattern);
-        Held {
-            admission: Admission::Accepted,
-            search: Search {
-                pattern: bytes,
-                pattern_len: pattern.len(),
-                k,
-                method,
-                total: 0,
-                tail: [0; 63],
-                tail_len: 0,
-            },
-        }
+        Search::with_parts(
+            decode::body(bytes, 1),
+            decode::tolerance(bytes),
+            decode::method(bytes),
+            decode::total(bytes),
+            decode::body(bytes, 4),
+        )
     }
 
     // The tests of a search handed in, which may have been filled in by hand: 1 to 5, then 9.
@@ -164,14 +133,8 @@ impl Search {
             return Admission::Refused(Refusal::PatternLength);
         }
         let pattern = self.pattern;
-        let admission = admit::admit(&pattern[..len], self.k, self.method);
-        if let Admission::Refused(refusal) = admission {
-            return Admission::Refused(refusal);
-        }
-        if self.tail_len != tail_length(len, self.total as usize) {
-            return Admission::Refused(Refusal::Malformed);
-        }
-        Admission::Accepted
+        let total = self.total;
+        state::admit_parts(&pattern[..len], self.k, self.method, total, self.tail_len)
     }
 
     // The same search, to go on by another method.
@@ -179,25 +142,48 @@ impl Search {
         ensures { λ r. ⌜ SetsMethod self method r ⌝ }
     {
         let admission = self.checked();
-        if let Admission::Refused(refusal) = admission {
+        if let Admission::Refused(_) = admission {
             return Held {
-                admission: Admission::Refused(refusal),
+                admission,
                 search: self,
             };
         }
         let pattern = self.pattern;
         let len = self.pattern_len;
         let change = admit::admit_method(&pattern[..len], self.k, method);
-        if let Admission::Refused(refusal) = change {
+        if let Admission::Refused(_) = change {
             return Held {
-                admission: Admission::Refused(refusal),
+                admission: change,
                 search: self,
             };
         }
+        let mut changed = self;
+        changed.method = method;
         Held {
-            admission: Admission::Accepted,
-            search: Search { method, ..self },
+            admission: change,
+            search: changed,
         }
+    }
+
+    // The positions of the windows that end in the chunk, in the list's first places.
+    fn searched(self, chunk: &[u8], list: &mut [u32]) -> Done
+        requires { ⌜ (handedNumber self ≡ 0) × (limitNumber (self .total) (length (now chunk)) (length (now list)) ≡ 0) ⌝ }
+        ensures { λ r. ⌜ Found (steps (patternOf self) (self .k) (self .method) (reached self (now (chunk .entry)))) (self .total - self .«tail_len») (now (list .entry)) (now (list .exit)) r ⌝ }
+    {
+        let pattern = self.pattern;
+        let len = self.pattern_len;
+        let tail = self.tail;
+        let tail_len = self.tail_len;
+        let base = self.total as usize - tail_len;
+        pieces::search_pieces(
+            &pattern[..len],
+            self.k,
+            self.method,
+            &tail[..tail_len],
+            chunk,
+            base,
+            list,
+        )
     }
 
     // The search once a chunk was searched: the total has grown, and the tail has moved on.
@@ -210,9 +196,9 @@ impl Search {
         let tail = self.tail;
         let tail_len = self.tail_len;
         let total = self.total as usize + chunk.len();
-        let keep = tail_length(len, total);
-        let pattern_bytes = stored_pattern(&pattern[..len]);
-        let tail_bytes = next_tail(&tail[..tail_len], chunk, keep);
+        let keep = state::tail_length(len, total);
+        let pattern_bytes = state::stored_pattern(&pattern[..len]);
+        let tail_bytes = state::next_tail(&tail[..tail_len], chunk, keep);
         Search {
             pattern: pattern_bytes,
             pattern_len: len,
@@ -235,27 +221,14 @@ impl Search {
                 search: self,
             };
         }
-        let limits = self.limits(chunk.len(), list.len());
+        let limits = state::limits(self.total, chunk.len(), list.len());
         if let Admission::Refused(refusal) = limits {
             return Fed {
                 answer: Answer::Refused(refusal),
                 search: self,
             };
         }
-        let pattern = self.pattern;
-        let len = self.pattern_len;
-        let tail = self.tail;
-        let tail_len = self.tail_len;
-        let base = self.total as usize - tail_len;
-        let done = pieces::search_pieces(
-            &pattern[..len],
-            self.k,
-            self.method,
-            &tail[..tail_len],
-            chunk,
-            base,
-            list,
-        );
+        let done = self.searched(chunk, list);
         Fed {
             answer: Answer::Listed {
                 found: done.found,
@@ -263,22 +236,6 @@ impl Search {
             },
             search: self.advanced(chunk),
         }
-    }
-
-    // What feed tests of the chunk, the list and the total: 6, 7, 8.
-    fn limits(self, chunk: usize, places: usize) -> Admission
-        ensures { λ r. ⌜ admissionNumber r ≡ limitNumber (self .total) chunk places ⌝ }
-    {
-        if Search::LONGEST_CHUNK < chunk {
-            return Admission::Refused(Refusal::TextTooLong);
-        }
-        if places < chunk {
-            return Admission::Refused(Refusal::TooFewPlaces);
-        }
-        if 4294967295 < self.total as usize + chunk {
-            return Admission::Refused(Refusal::TotalTooLarge);
-        }
-        Admission::Accepted
     }
 
     // The search's image in the buffer's first bytes, and the search as it came.
@@ -314,57 +271,5 @@ impl Search {
             saving: Saving::Written(written),
             search: self,
         }
-    }
-
-    // The search with these parts, if they pass the tests of a search: 1 to 5, then 9.
-    fn with_parts(pattern: &[u8], k: u8, method: u8, total: u32, tail: &[u8]) -> Held
-        ensures { λ r. ⌜ HeldWith (partsWith (now (pattern .entry)) k method total (now (tail .entry))) r ⌝ }
-    {
-        let admission = admit::admit(pattern, k, method);
-        if let Admission::Refused(refusal) = admission {
-            return Held {
-                admission: Admission::Refused(refusal),
-                search: Search::BLANK,
-            };
-        }
-        if tail.len() != tail_length(pattern.len(), total as usize) {
-            return Held {
-                admission: Admission::Refused(Refusal::Malformed),
-                search: Search::BLANK,
-            };
-        }
-        let pattern_bytes = stored_pattern(pattern);
-        let tail_bytes = next_tail(&tail[..0], tail, tail.len());
-        Held {
-            admission: Admission::Accepted,
-            search: Search {
-                pattern: pattern_bytes,
-                pattern_len: pattern.len(),
-                k,
-                method,
-                total,
-                tail: tail_bytes,
-                tail_len: tail.len(),
-            },
-        }
-    }
-
-    // The search that an image holds, whatever the order of its entries.
-    pub fn load(bytes: &[u8]) -> Held
-        ensures { λ r. ⌜ Loads (now (bytes .entry)) r ⌝ }
-    {
-        if !decode::well_formed(bytes) {
-            return Held {
-                admission: Admission::Refused(Refusal::Malformed),
-                search: Search::BLANK,
-            };
-        }
-        Search::with_parts(
-            decode::body(bytes, 1),
-            decode::tolerance(bytes),
-            decode::method(bytes),
-            decode::total(bytes),
-            decode::body(bytes, 4),
-        )
     }
 }

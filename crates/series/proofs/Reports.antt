@@ -10,7 +10,7 @@ use lib.Seq.{drop-drop, drop-append-le, take-append-le}
 use borrow.Author.Tests.{lt-ltb, le-ltb}
 use Rattle.jumbled.specs.Match.{matches, window, starts, select, positions}
 use Rattle.listing.specs.Placed.{shifted}
-use Rattle.search.specs.Searches.{lastOf, tailLength}
+use Rattle.state.specs.Stored.{lastOf, tailLength}
 use Rattle.series.specs.History.{reportOf}
 
 -- ---- select

@@ -11,7 +11,8 @@ use Rattle.admit.specs.Numbers.{admissionNumber}
 use Rattle.search.specs.declared.Search.{Search}
 use Rattle.search.specs.declared.Held.{Held}
 use Rattle.search.specs.declared.Kept.{Kept}
-use Rattle.search.specs.Searches.{patternOf, tailOf, partsOfSearch, stored, tailLength}
+use Rattle.state.specs.Stored.{tailLength}
+use Rattle.search.specs.Searches.{patternOf, tailOf, partsOfSearch, stored}
 use Rattle.search.specs.Calls.{handedTests, handedNumber, Saves, saveNumber, imageOf, savingNumber, Loads, loadNumber}
 use Rattle.search.proofs.Handed.{handed-numbered, Sound, sound}
 use Rattle.series.specs.Series.{written}

@@ -17,13 +17,14 @@ use Rattle.image.specs.Decode.{partsOf}
 use Rattle.image.proofs.Images.{save-order}
 use Rattle.admit.specs.Numbers.{admissionNumber}
 use Rattle.search.specs.declared.Search.{Search}
-use Rattle.search.specs.declared.Answer.{Answer}
+use Rattle.whole.specs.declared.Answer.{Answer}
 use Rattle.search.specs.declared.Held.{Held}
 use Rattle.search.specs.declared.Fed.{Fed}
 use Rattle.search.specs.declared.Kept.{Kept}
-use Rattle.search.specs.Answers.{answerNumber, answerFound}
-use Rattle.search.specs.Whole.{Whole, wholeNumber}
-use Rattle.search.specs.Searches.{patternOf, stored, lastOf, tailLength}
+use Rattle.whole.specs.Answers.{answerNumber, answerFound}
+use Rattle.whole.specs.Whole.{Whole, wholeNumber}
+use Rattle.state.specs.Stored.{lastOf, tailLength}
+use Rattle.search.specs.Searches.{patternOf, stored}
 use Rattle.search.specs.Searches as Searches
 use Rattle.search.specs.Calls.{Opened, openNumber, Feeds, feedNumber, reached, fedParts, SetsMethod, setMethodNumber, Saves, saveNumber, imageOf, Loads, loadNumber, savingNumber, savingLength}
 use Rattle.series.specs.History.{Ledger, Current, blank, holds, Copy, startWith, withChunk, withMethod, changed, keep, broughtBack, report}

@@ -16,7 +16,8 @@ use Rattle.image.specs.Image.{Parts, partsWith, image, IsOrder, Sized}
 use Rattle.image.specs.Decode.{partsOf}
 use Rattle.image.proofs.Images.{image-taken, parts-back}
 use Rattle.search.specs.declared.Search.{Search}
-use Rattle.search.specs.Searches.{patternOf, tailOf, partsOfSearch, stored, blank, tailLength, badTail}
+use Rattle.state.specs.Stored.{tailLength}
+use Rattle.search.specs.Searches.{patternOf, tailOf, partsOfSearch, stored, blank, badTail}
 use Rattle.search.specs.Calls.{feedNumber, setMethodNumber, saveNumber, loadNumber, badTailIn}
 
 -- ---- one list of tests after another

@@ -5,12 +5,12 @@ use mathlib.Core.Logic.{_⊎_, ⊎-elim}
 use Prim.Native.Nat.{ℕ, zero, suc}
 use Rattle.admit.specs.Numbers.{admissionNumber}
 use Rattle.search.specs.declared.Search.{Search}
-use Rattle.search.specs.declared.Answer.{Answer}
+use Rattle.whole.specs.declared.Answer.{Answer}
 use Rattle.search.specs.declared.Held.{Held}
 use Rattle.search.specs.declared.Fed.{Fed}
 use Rattle.search.specs.declared.Kept.{Kept}
-use Rattle.search.specs.Answers.{answerNumber}
-use Rattle.search.specs.Whole.{Whole}
+use Rattle.whole.specs.Answers.{answerNumber}
+use Rattle.whole.specs.Whole.{Whole}
 use Rattle.search.specs.Calls.{Opened, Feeds, SetsMethod, Saves, Loads, savingNumber}
 use Rattle.series.specs.History.{History, verdict, Event, opened, fed, methodSet, saved, loaded, searched, after, history}
 use Rattle.series.specs.Series.{KeptAs, written, Run, fresh, opens, feeds, sets, saves, loads, wholes, AfterCall, Right}

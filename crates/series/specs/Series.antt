@@ -9,13 +9,13 @@ use Rattle.jumbled.specs.Steps.{steps}
 use Rattle.listing.specs.Placed.{placed}
 use Rattle.admit.specs.Numbers.{admissionNumber}
 use Rattle.search.specs.declared.Search.{Search}
-use Rattle.search.specs.declared.Answer.{Answer}
+use Rattle.whole.specs.declared.Answer.{Answer}
 use Rattle.search.specs.declared.Held.{Held}
 use Rattle.search.specs.declared.Fed.{Fed}
 use Rattle.search.specs.declared.Kept.{Kept}
-use Rattle.search.specs.Answers.{answerNumber, answerFound, answerLooks}
-use Rattle.search.specs.Whole.{Whole}
-use Rattle.search.specs.Searches.{lastOf, tailLength}
+use Rattle.whole.specs.Answers.{answerNumber, answerFound, answerLooks}
+use Rattle.whole.specs.Whole.{Whole}
+use Rattle.state.specs.Stored.{lastOf, tailLength}
 use Rattle.search.specs.Calls.{Opened, Feeds, SetsMethod, Saves, Loads, savingNumber, savingLength}
 use Rattle.series.specs.History.{Ledger, blank, holds, Copy, History, verdict, Event, opened, fed, methodSet, saved, loaded, searched, report, history}
 

@@ -4,7 +4,8 @@ use Prim.Native.Nat.{ℕ, _+_}
 use native.Mathlib.Omega.{arith}
 use lib.ListN.{length, length-take, length-append}
 use Rattle.search.specs.declared.Search.{Search}
-use Rattle.search.specs.Searches.{patternOf, tailOf, lastOf, tailLength}
+use Rattle.search.specs.Searches.{patternOf, tailOf}
+use Rattle.state.specs.Stored.{lastOf, tailLength}
 use Rattle.search.specs.Calls.{reached}
 use Rattle.search.proofs.Feeding.{length-last}
 use borrow.Author.Needs.{needs}

@@ -1,96 +1,69 @@
--- `search::Search::with_parts` meets its contract: a test a return.
-use mathlib.Core.Path.{_≡_, refl, sym, ap, _∙_}
-use mathlib.Core.List.{[], _++_}
-use Prim.Native.Nat.{ℕ, _-_, min}
+-- `search::Search::with_parts` meets its contract.
+use mathlib.Core.Path.{_≡_, sym, ap, _∙_}
 use native.Mathlib.Omega.{arith}
-use lib.ListN.{length, drop}
-use borrow.Author.Tests.{eq-eqb, ne-eqb}
-use Rattle.jumbled.specs.Refusals.{given, patternTests}
-use Rattle.jumbled.proofs.Admission.{admitted}
+use lib.ListN.{length}
+use Rattle.jumbled.proofs.Admission.{Admitted, admitted}
 use Rattle.admit.specs.Numbers.{admissionNumber}
 use Rattle.image.specs.Image.{Parts, partsWith}
-use Rattle.search.specs.Searches.{lastOf}
-use Rattle.search.proofs.Images.{held-refused-early, held-bad-tail, held-accepted}
+use Rattle.state.specs.Stored.{tailLength}
+use Rattle.state.proofs.Refused.{parts-right}
+use Rattle.search.specs.Calls.{numberOfParts}
+use Rattle.search.proofs.Handed.{held-refused, held-accepted}
 use borrow.Author.Needs.{needs}
 use Rattle.search.proofs.Search.with_parts.Statement.{statement}
 use Rattle.search.proofs.Search.with_parts.Tie as tie
 
--- past the tests of the pattern
-abbrev start-of : tie.After-enum-told → tie.Start
-start-of s = s .before .before .before .before .before
-
 abbrev parts-of : tie.Start → Parts
 parts-of c = partsWith (c .args .pattern .now) (c .args .k) (c .args .method) (c .args .total) (c .args .tail .now)
 
-accepted : (s : tie.After-enum-told) → given (patternTests (start-of s .args .pattern .now) (start-of s .args .k) (start-of s .args .method)) ≡ 0
-accepted s = sym (s .before .before .admit .ensures) ∙ ap admissionNumber (s .enum-told .given .1)
+-- past the tests
+abbrev start-of : tie.After-enum-told2 → tie.Start
+start-of s = s .before .before .before .before .before
 
-right-length : (c : tie.Else1)
-    → length (start-of (c .before .before) .args .tail .now) ≡ min (start-of (c .before .before) .args .total) (length (start-of (c .before .before) .args .pattern .now) - 1)
-right-length c = c .if1 .left ∙ c .before .tail-length .ensures
+accepted : (s : tie.After-enum-told2) → numberOfParts (parts-of (start-of s)) ≡ 0
+accepted s = sym (s .before .before .admit-parts .ensures) ∙ ap admissionNumber (s .enum-told2 .given .1)
 
-admit-requires : tie.Need-admit-requires
-admit-requires c κs = search needs
+right : (s : tie.After-enum-told2)
+    → let args = start-of s .args in
+    Admitted (args .pattern .now) (args .k) (args .method) × (length (args .tail .now) ≡ tailLength (length (args .pattern .now)) (args .total))
+right s =
+    let args = start-of s .args in
+    let none = parts-right (args .pattern .now) (args .k) (args .method) (args .total) (length (args .tail .now)) (accepted s) in
+    (admitted (args .pattern .now) (args .k) (args .method) (none .0), none .1)
 
-enum-known-admission : tie.Need-enum-known-admission
-enum-known-admission c = search needs
-
-returns : tie.Need-returns
-returns c =
-    held-refused-early (parts-of (c .before .before .before .before .before .before)) _ (ap admissionNumber (sym (c .before .admission .given .1)) ∙ c .before .before .before .admit .ensures)
+admit-parts-requires : tie.Need-admit-parts-requires
+admit-parts-requires c κs = search needs
 
 enum-told : tie.Need-enum-told
 enum-told c = search needs
 
-tail-length-requires : tie.Need-tail-length-requires
-tail-length-requires c κs =
-    let args = start-of c .args in
-    omega (arith, admitted (args .pattern .now) (args .k) (args .method) (accepted c) .some)
+returns : tie.Need-returns
+returns c =
+    held-refused (parts-of (c .before .before .before .before .before)) _ (c .before .before .admit-parts .ensures) _ (c .enum-told .given .1)
+
+enum-told-2 : tie.Need-enum-told-2
+enum-told-2 c = search needs
+
+stored-pattern-requires : tie.Need-stored-pattern-requires
+stored-pattern-requires c κs = right c .0 .short
+
+stored-tail-requires : tie.Need-stored-tail-requires
+stored-tail-requires c κs = let parts = right (c .before) in omega (arith, parts .0 .short, parts .1)
 
 returns-2 : tie.Need-returns-2
 returns-2 c =
-    let told : tie.After-enum-told = c .before .before in
-    let args = start-of told .args in
-    held-bad-tail (parts-of (start-of told)) (accepted told)
-    (rw (ne-eqb (length (args .tail .now)) (min (args .total) (length (args .pattern .now) - 1)) (λ e. c .if1 .taken (e ∙ sym (c .before .tail-length .ensures)))) refl)
-
-stored-pattern-requires : tie.Need-stored-pattern-requires
-stored-pattern-requires c κs =
-    let told : tie.After-enum-told = c .before .before in
-    let args = start-of told .args in
-    admitted (args .pattern .now) (args .k) (args .method) (accepted told) .short
-
-slice-aggregate-next-tail : tie.Need-slice-aggregate-next-tail
-slice-aggregate-next-tail c = search needs
-
-next-tail-requires : tie.Need-next-tail-requires
-next-tail-requires c κs =
-    let told : tie.After-enum-told = c .before .before .before .before in
-    let args = start-of told .args in
-    let short = admitted (args .pattern .now) (args .k) (args .method) (accepted told) .short in
-    (omega (arith, right-length (c .before .before)), omega arith)
-
-returns-3 : tie.Need-returns-3
-returns-3 c =
-    let told : tie.After-enum-told = c .before .before .before .before .before in
-    let args = start-of told .args in
-    let none : length ([] ++ args .tail .now) - length (args .tail .now) ≡ 0 = omega arith in
-    let all : lastOf (length (args .tail .now)) ([] ++ args .tail .now) ≡ args .tail .now = ap (λ (n : ℕ). drop n (args .tail .now)) none in
-    rw (c .before .before .stored-pattern .ensures, c .next-tail .ensures, all)
-    (held-accepted (parts-of (start-of told)) (accepted told)
-    (rw (eq-eqb (length (args .tail .now)) (min (args .total) (length (args .pattern .now) - 1)) (right-length (c .before .before .before))) refl))
+    let told : tie.After-enum-told2 = c .before .before in
+    rw (c .before .stored-pattern .ensures, c .stored-tail .ensures)
+    (held-accepted (parts-of (start-of told)) _ (told .before .before .admit-parts .ensures) (told .enum-told2 .given .1))
 
 pub with-parts-spec : {M : Type 1} → statement M
 with-parts-spec =
     tie.close
     (tie.spec
-    admit-requires
-    enum-known-admission
-    returns
+    admit-parts-requires
     enum-told
-    tail-length-requires
-    returns-2
+    returns
+    enum-told-2
     stored-pattern-requires
-    slice-aggregate-next-tail
-    next-tail-requires
-    returns-3)
+    stored-tail-requires
+    returns-2)

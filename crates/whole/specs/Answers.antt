@@ -1,10 +1,8 @@
 -- Document 01's number and values for each answer of a search: "When a call says no", and "A refusal reports 0 found, 0 looks".
 use Prim.Native.Nat.{ℕ}
-use mathlib.Core.Bool.{cond}
-use lib.Dec.{eqb}
 use Rattle.admit.specs.Numbers.{numberOf}
-use Rattle.search.specs.declared.Answer.{Answer}
-use Rattle.search.specs.declared.Answer.the-variants.{Listed, Refused}
+use Rattle.whole.specs.declared.Answer.{Answer}
+use Rattle.whole.specs.declared.Answer.the-variants.{Listed, Refused}
 
 abbrev pub answerNumber : Answer → ℕ
 answerNumber (Listed found looks) = 0
@@ -17,7 +15,3 @@ answerFound (Refused refusal) = 0
 abbrev pub answerLooks : Answer → ℕ
 answerLooks (Listed found looks) = looks
 answerLooks (Refused refusal) = 0
-
--- What holds where the number is 0, and what holds on a refusal
-abbrev pub unlessRefused : {A : Type 0} → ℕ → A → A → A
-unlessRefused number accepted refused = cond (eqb number 0) accepted refused

@@ -1,12 +1,12 @@
 -- A whole search's answer: a refusal, or what its steps list.
 use mathlib.Core.Path.{_≡_, refl, sym, ap, _∙_}
-use mathlib.Core.Bool.{cond}
+use mathlib.Core.Bool.{Bool, true, false, cond}
 use mathlib.Core.List.{List, [], _∷_, _++_}
-use Prim.Native.Nat.{ℕ, _<_}
+use Prim.Native.Nat.{ℕ, _+_}
 use native.Mathlib.Omega.{arith}
-use lib.Dec.{lit<}
+use lib.Dec.{ltb}
 use lib.ListN.{length}
-use borrow.Author.Tests.{eq-eqb, ne-eqb}
+use borrow.Author.Tests.{ltb-false, le-ltb}
 use Rattle.jumbled.specs.Match.{Bytes, positions}
 use Rattle.jumbled.specs.Steps.{steps}
 use Rattle.jumbled.specs.Refusals.{given, test, patternTests, wholeTests}
@@ -16,33 +16,12 @@ use Rattle.listing.specs.Placed.{placed}
 use Rattle.listing.proofs.Placing.{shifted-zero}
 use Rattle.admit.specs.Numbers.{numberOf}
 use Rattle.admit.specs.declared.Refusal.{Refusal}
-use Rattle.admit.specs.declared.Refusal.the-variants.{PatternLength, ToleranceTooLarge, UnknownMethod, ToleranceNotTaken, FieldsTooWide, TextTooLong, TooFewPlaces, TotalTooLarge, Malformed, BufferTooShort, BadRequest}
 use Rattle.pieces.specs.Joined.{Found}
 use Rattle.pieces.specs.declared.Done.{Done}
-use Rattle.search.specs.declared.Answer.the-variants.{Listed, Refused}
-use Rattle.search.specs.Answers.{unlessRefused}
-use Rattle.search.specs.Whole.{tooLong, tooFewPlaces, wholeNumber, Whole}
-
-pub number-positive : (refusal : Refusal) → 0 < numberOf refusal
-number-positive PatternLength = lit< tt
-number-positive ToleranceTooLarge = lit< tt
-number-positive UnknownMethod = lit< tt
-number-positive ToleranceNotTaken = lit< tt
-number-positive FieldsTooWide = lit< tt
-number-positive TextTooLong = lit< tt
-number-positive TooFewPlaces = lit< tt
-number-positive TotalTooLarge = lit< tt
-number-positive Malformed = lit< tt
-number-positive BufferTooShort = lit< tt
-number-positive BadRequest = lit< tt
-
--- what is said on a refusal, and what where nothing is refused
-pub on-refusal : {A : Type 0} (refusal : Refusal) (number : ℕ) (accepted refused : A) → numberOf refusal ≡ number → refused ≡ unlessRefused number accepted refused
-on-refusal refusal number accepted refused e =
-    rw (ne-eqb number 0 (λ q. let positive = number-positive refusal in omega arith)) refl
-
-pub on-accepted : {A : Type 0} (number : ℕ) (accepted refused : A) → number ≡ 0 → accepted ≡ unlessRefused number accepted refused
-on-accepted number accepted refused e = rw (eq-eqb number 0 e) refl
+use Rattle.whole.specs.declared.Answer.the-variants.{Listed, Refused}
+use Rattle.state.specs.Tests.{limitNumber, unlessRefused}
+use Rattle.state.proofs.Refused.{number-positive, on-refusal, on-accepted}
+use Rattle.whole.specs.Whole.{tooLong, tooFewPlaces, wholeNumber, Whole}
 
 -- the tests of a whole search: those of the pattern, then 6 and 7
 pub whole-number : (P : List ℕ) (k method : ℕ) (T list : List ℕ)
@@ -56,16 +35,30 @@ whole-number P k method T list =
     later : given (test 6 (tooLong T) ∷ test 7 (tooFewPlaces T list) ∷ []) ≡ cond (tooLong T) 6 (cond (tooFewPlaces T list) 7 0)
     later = refl
 
+-- 8 never applies to a first chunk: 6 would come before it
+first-limits : (T list : List ℕ) → limitNumber 0 (length T) (length list) ≡ cond (tooLong T) 6 (cond (tooFewPlaces T list) 7 0)
+unfolding limitNumber given
+first-limits T list = by (tooLong T) refl
+  where
+    Shorter : Bool → Type 0
+    Shorter t =
+        _≡_ {A = ℕ} (cond t 6 (cond (tooFewPlaces T list) 7 (cond (ltb 4294967295 (0 + length T)) 8 0))) (cond t 6 (cond (tooFewPlaces T list) 7 0))
+
+    by : (t : Bool) → tooLong T ≡ t → Shorter t
+    by true e = refl
+    by false e = rw (le-ltb 4294967295 (0 + length T) (omega (arith, ltb-false 65536 (length T) e))) refl
+
 module _ (P : List ℕ) (k method : ℕ) (T list : List ℕ) where
   whole-early : (refusal : Refusal) → numberOf refusal ≡ given (patternTests P k method) → numberOf refusal ≡ wholeNumber P k method T list
   whole-early refusal e =
       e ∙ on-refusal refusal (given (patternTests P k method)) (cond (tooLong T) 6 (cond (tooFewPlaces T list) 7 0)) (given (patternTests P k method)) e
       ∙ sym (whole-number P k method T list)
 
-  pub whole-late : given (patternTests P k method) ≡ 0 → wholeNumber P k method T list ≡ cond (tooLong T) 6 (cond (tooFewPlaces T list) 7 0)
+  pub whole-late : given (patternTests P k method) ≡ 0 → wholeNumber P k method T list ≡ limitNumber 0 (length T) (length list)
   whole-late e =
       whole-number P k method T list
       ∙ sym (on-accepted (given (patternTests P k method)) (cond (tooLong T) 6 (cond (tooFewPlaces T list) 7 0)) (given (patternTests P k method)) e)
+      ∙ sym (first-limits T list)
 
   -- a refusal leaves everything as it was
   pub whole-refused : (refusal : Refusal) → numberOf refusal ≡ wholeNumber P k method T list → Whole P k method T list list (Refused refusal)

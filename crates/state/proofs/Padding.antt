@@ -7,7 +7,7 @@ use native.Mathlib.Omega.{arith}
 use lib.ListN.{length, take, drop, replicate, length-append, length-drop}
 use lib.Seq.{drop-append-add, drop-append-le, take-all}
 use Rattle.listing.specs.Placed.{placed}
-use Rattle.search.specs.Searches.{padded, lastOf}
+use Rattle.state.specs.Stored.{padded, lastOf}
 
 drop-replicate : (j n v : ℕ) → drop j (replicate n v) ≡ replicate (n - j) v
 drop-replicate zero n v = ap (λ (k : ℕ). replicate k v) (sym (sub-zero n))

@@ -1,9 +1,9 @@
--- `search::stored_pattern` meets its contract.
+-- `state::stored_pattern` meets its contract.
 use mathlib.Core.Path.{_∙_}
-use Rattle.search.proofs.Padding.{placed-zeros}
+use Rattle.state.proofs.Padding.{placed-zeros}
 use borrow.Author.Needs.{needs}
-use Rattle.search.proofs.stored_pattern.Statement.{statement}
-use Rattle.search.proofs.stored_pattern.Tie as tie
+use Rattle.state.proofs.stored_pattern.Statement.{statement}
+use Rattle.state.proofs.stored_pattern.Tie as tie
 
 slice-aggregate-copy-in : tie.Need-slice-aggregate-copy-in
 slice-aggregate-copy-in c = search needs

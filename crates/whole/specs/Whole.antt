@@ -9,8 +9,9 @@ use Rattle.jumbled.specs.Match.{positions}
 use Rattle.jumbled.specs.Steps.{steps}
 use Rattle.jumbled.specs.Refusals.{given, wholeTests}
 use Rattle.listing.specs.Placed.{placed}
-use Rattle.search.specs.declared.Answer.{Answer}
-use Rattle.search.specs.Answers.{answerNumber, answerFound, answerLooks, unlessRefused}
+use Rattle.whole.specs.declared.Answer.{Answer}
+use Rattle.state.specs.Tests.{unlessRefused}
+use Rattle.whole.specs.Answers.{answerNumber, answerFound, answerLooks}
 
 -- 6: over 65,536 bytes
 abbrev pub tooLong : List ℕ → Bool
