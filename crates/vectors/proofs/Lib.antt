@@ -1,0 +1,3 @@
+pub mod Filling
+pub mod Digesting
+pub mod Numbers

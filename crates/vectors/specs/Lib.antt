@@ -1,0 +1,4 @@
+pub mod Fillings
+pub mod Digests
+pub mod Reading
+pub mod Outcomes

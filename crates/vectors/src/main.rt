@@ -1,0 +1,147 @@
+// The program vectors: stored cases on standard input, each run and compared with its stored outcome. tools/vectors_stream.py says how the
+// stream is laid out, and tools/make_vectors.py makes it.
+ghost use mathlib.Core.Path.{_≡_};
+ghost use Prim.Native.Nat.{_+_, _^_, _≤_, _<_};
+ghost use lib.ListN.{length};
+
+mod cases;
+mod digests;
+mod fillings;
+mod outcomes;
+mod printing;
+mod reading;
+
+use cases::HAND;
+use cases::make_call;
+use cases::read_case;
+use fillings::fill_list;
+use libc::STDIN_FILENO;
+use outcomes::Outcome;
+use outcomes::agree;
+use outcomes::read_outcome;
+use printing::print_difference;
+use printing::print_malformed;
+use printing::print_tally;
+use search::Search;
+
+// The longest stream; what follows isn't read. The longest text and the longest list of a case.
+const LONGEST_STREAM: usize = 524288;
+
+const LONGEST_TEXT: usize = 65537;
+
+// A case that was run: what its call came to, what is stored, the search that it left, and the place after it.
+struct Step {
+    op: u8,
+    got: Outcome,
+    expected: Outcome,
+    search: Search,
+    next: usize,
+}
+
+// How many cases were compared, and how many of them came to something else than is stored.
+struct Tally {
+    cases: usize,
+    differ: usize,
+}
+
+// Room for the longest text, and for the longest list. Their lengths come by a law, since the prover would count the places one by one.
+fn text_room() -> [u8; LONGEST_TEXT]
+    ensures { λ r. ⌜ 65537 ≡ length r ⌝ }
+{
+    [0; LONGEST_TEXT]
+}
+
+fn list_room() -> [u32; LONGEST_TEXT]
+    ensures { λ r. ⌜ 65537 ≡ length r ⌝ }
+{
+    [0; LONGEST_TEXT]
+}
+
+// Runs the case at a place. One that can't be read is run with what could be read of it, and leads to a place past the stream's end.
+fn run_case(stream: &[u8], at: usize, search: Search) -> Step {
+    let mut pattern = [0u8; 300];
+    let mut text = text_room();
+    let mut list = list_room();
+    let case = read_case(stream, at, &mut pattern, &mut text);
+    let stored = read_outcome(stream, case.next, case.op != HAND);
+    let m = case.pattern;
+    let n = case.text;
+    let places = case.places;
+    fill_list(&mut list, places);
+    let called = make_call(case, search, &pattern[..m], &text[..n], &mut list[..places]);
+    let got = called.got;
+    let expected = stored.outcome;
+    let left = called.search;
+    Step {
+        op: case.op,
+        got,
+        expected,
+        search: left,
+        next: stored.next,
+    }
+}
+
+// Compares a case's outcome with the one stored. A search that is filled in by hand is no case.
+fn compare(tally: Tally, op: u8, got: Outcome, expected: Outcome) -> Tally
+    requires { ⌜ (tally .differ ≤ tally .cases) × (tally .cases < 2 ^ 63) ⌝ }
+    ensures { λ r. ⌜ (r .differ ≤ r .cases) × (r .cases ≤ tally .cases + 1) ⌝ }
+{
+    if op == HAND {
+        return tally;
+    }
+    let cases = tally.cases + 1;
+    if agree(got, expected) {
+        return Tally {
+            cases,
+            differ: tally.differ,
+        };
+    }
+    print_difference(cases, op, got, expected);
+    Tally {
+        cases,
+        differ: tally.differ + 1,
+    }
+}
+
+// Runs the cases one after the other. Each takes a byte at least, so there are no more cases than bytes.
+fn run(stream: &[u8]) -> Tally
+    ensures { λ r. ⌜ r .differ ≤ r .cases ⌝ }
+{
+    let mut tally = Tally {
+        cases: 0,
+        differ: 0,
+    };
+    let mut search = Search::BLANK;
+    let mut at: usize = 0;
+    for turn in 0..stream.len() {
+        if stream.len() <= at {
+            break;
+        }
+        let done = run_case(stream, at, search);
+        if stream.len() < done.next {
+            print_malformed(at);
+            break;
+        }
+        let got = done.got;
+        let expected = done.expected;
+        let left = done.search;
+        tally = compare(tally, done.op, got, expected);
+        search = left;
+        at = done.next;
+    }
+    tally
+}
+
+// Room for the longest stream.
+fn stream_room() -> [u8; LONGEST_STREAM]
+    ensures { λ r. ⌜ 524288 ≡ length r ⌝ }
+{
+    [0; LONGEST_STREAM]
+}
+
+fn main() {
+    let mut stream = stream_room();
+    let read = io::read_full(STDIN_FILENO, &mut stream);
+    let tally = run(&stream[..read]);
+    print_tally(tally.cases, tally.differ);
+}
