@@ -1,7 +1,7 @@
 // Outcomes of calls: made of what a call answered, read from the stream, compared.
 ghost use mathlib.Core.Path.{_≡_};
 ghost use Rattle.admit.specs.Numbers.{numberOf, admissionNumber};
-ghost use Rattle.search.specs.Answers.{answerNumber, answerFound, answerLooks};
+ghost use Rattle.whole.specs.Answers.{answerNumber, answerFound, answerLooks};
 ghost use Rattle.search.specs.Calls.{savingNumber, savingLength};
 ghost use Rattle.vectors.specs.Outcomes.{outcomeOf, sameOutcome};
 use crate::reading::read_number;
