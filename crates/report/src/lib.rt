@@ -1,33 +1,11 @@
 // What the program mixlist prints for its input, as a function on slices (document 01, "The program").
-ghost use mathlib.Core.Path.{_≡_};
 ghost use Prim.Native.Nat.{_≤_};
 ghost use lib.ListN.{length};
-ghost use Rattle.admit.specs.Numbers.{numberOf};
 ghost use Rattle.decimals.specs.Buffer.{Written};
 ghost use Rattle.report.specs.Output.{answerText, Reported};
-use admit::Refusal;
 use request::LONGEST_INPUT;
 use request::Parsed;
 use whole::Answer;
-
-// The number that document 01 gives a refusal.
-fn number_of(refusal: Refusal) -> usize
-    ensures { λ r. ⌜ r ≡ numberOf refusal ⌝ }
-{
-    match refusal {
-        Refusal::PatternLength => 1,
-        Refusal::ToleranceTooLarge => 2,
-        Refusal::UnknownMethod => 3,
-        Refusal::ToleranceNotTaken => 4,
-        Refusal::FieldsTooWide => 5,
-        Refusal::TextTooLong => 6,
-        Refusal::TooFewPlaces => 7,
-        Refusal::TotalTooLarge => 8,
-        Refusal::Malformed => 9,
-        Refusal::BufferTooShort => 10,
-        Refusal::BadRequest => 11,
-    }
-}
 
 // Answers a request. The list has a place for each byte of the longest input, so a whole search never lacks places.
 fn answer_request(pattern: &[u8], k: u8, method: u8, text: &[u8], buffer: &mut [u8]) -> usize
@@ -36,7 +14,7 @@ fn answer_request(pattern: &[u8], k: u8, method: u8, text: &[u8], buffer: &mut [
 {
     let mut list = [0u32; LONGEST_INPUT];
     match whole::whole(pattern, k, method, text, &mut list) {
-        Answer::Refused(refusal) => lines::write_refusal(number_of(refusal), buffer, 0),
+        Answer::Refused(refusal) => lines::write_refusal(admit::number_of(refusal), buffer, 0),
         Answer::Listed { found, looks } => lines::write_found(
             pattern,
             k,

@@ -1,12 +1,11 @@
 // Outcomes of calls: made of what a call answered, read from the stream, compared.
 ghost use mathlib.Core.Path.{_≡_};
-ghost use Rattle.admit.specs.Numbers.{numberOf, admissionNumber};
+ghost use Rattle.admit.specs.Numbers.{admissionNumber};
 ghost use Rattle.whole.specs.Answers.{answerNumber, answerFound, answerLooks};
 ghost use Rattle.search.specs.Calls.{savingNumber, savingLength};
 ghost use Rattle.vectors.specs.Outcomes.{outcomeOf, sameOutcome};
 use crate::reading::read_number;
 use admit::Admission;
-use admit::Refusal;
 use search::Answer;
 use search::Saving;
 
@@ -24,32 +23,13 @@ pub struct Stored {
     pub next: usize,
 }
 
-// The number that document 01 gives a refusal.
-fn number_of(refusal: Refusal) -> u64
-    ensures { λ r. ⌜ r ≡ numberOf refusal ⌝ }
-{
-    match refusal {
-        Refusal::PatternLength => 1,
-        Refusal::ToleranceTooLarge => 2,
-        Refusal::UnknownMethod => 3,
-        Refusal::ToleranceNotTaken => 4,
-        Refusal::FieldsTooWide => 5,
-        Refusal::TextTooLong => 6,
-        Refusal::TooFewPlaces => 7,
-        Refusal::TotalTooLarge => 8,
-        Refusal::Malformed => 9,
-        Refusal::BufferTooShort => 10,
-        Refusal::BadRequest => 11,
-    }
-}
-
 // What a search of a text or a chunk answered. A refusal gives no numbers.
 pub fn answered(answer: Answer, digest: u64) -> Outcome
     ensures { λ r. ⌜ r ≡ outcomeOf (answerNumber answer) (answerFound answer) (answerLooks answer) digest ⌝ }
 {
     match answer {
         Answer::Refused(refusal) => Outcome {
-            number: number_of(refusal),
+            number: admit::number_of(refusal) as u64,
             a: 0,
             b: 0,
             digest,
@@ -69,7 +49,7 @@ pub fn admitted(admission: Admission, digest: u64) -> Outcome
 {
     match admission {
         Admission::Refused(refusal) => Outcome {
-            number: number_of(refusal),
+            number: admit::number_of(refusal) as u64,
             a: 0,
             b: 0,
             digest,
@@ -89,7 +69,7 @@ pub fn saved(saving: Saving, digest: u64) -> Outcome
 {
     match saving {
         Saving::Refused(refusal) => Outcome {
-            number: number_of(refusal),
+            number: admit::number_of(refusal) as u64,
             a: 0,
             b: 0,
             digest,
