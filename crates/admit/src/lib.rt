@@ -78,7 +78,7 @@ pub fn admit_method(pattern: &[u8], k: u8, method: u8) -> Admission
     if tolerance_refused(k, method) {
         return Admission::Refused(Refusal::ToleranceNotTaken);
     }
-    if 64 < packed::field_bits(pattern, k as usize, method) {
+    if 64 < widths::field_bits(pattern, k as usize, method) {
         return Admission::Refused(Refusal::FieldsTooWide);
     }
     Admission::Accepted

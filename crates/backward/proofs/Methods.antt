@@ -8,7 +8,7 @@ use Rattle.jumbled.specs.Scan.{singles, pairs}
 use Rattle.jumbled.specs.Fields.{bamLayout, bam2Layout, abamLayout, layoutOf, overflows, errors}
 use Rattle.jumbled.proofs.Overflow.{bam-roomy, bam2-roomy, abam-roomy, overflows-exact, errors-exact}
 use Rattle.packed.specs.declared.Tables.{Tables}
-use Rattle.packed.proofs.Widths.{layout-2, layout-3, layout-4}
+use Rattle.widths.proofs.Widths.{layout-2, layout-3, layout-4}
 use Rattle.listing.specs.declared.Stretch.{Stretch}
 use Rattle.backward.specs.Searched.{Searchable}
 use Rattle.backward.proofs.Reading.{Method, Lawful}

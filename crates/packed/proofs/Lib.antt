@@ -1,4 +1,3 @@
 pub mod Packs
-pub mod Widths
 pub mod Words
 pub mod Values

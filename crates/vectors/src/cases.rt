@@ -254,7 +254,7 @@ fn width_of(pattern: &[u8], k: u8, method: u8) -> usize {
     if 64 < k {
         return 0;
     }
-    packed::field_bits(pattern, k as usize, method)
+    widths::field_bits(pattern, k as usize, method)
 }
 
 // Whether method 5 takes a candidate for a match without verifying it.

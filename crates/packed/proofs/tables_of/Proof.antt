@@ -11,7 +11,7 @@ use Rattle.jumbled.specs.Match.{Bytes, cc}
 use Rattle.jumbled.specs.Fields.{Layout, layoutOf, shared, widthOf}
 use Rattle.jumbled.proofs.Counts.{cc-length, cc-out}
 use Rattle.jumbled.proofs.Overflow.{Roomy, width-shared, width-own}
-use Rattle.packed.proofs.Widths.{layout-roomy, count-is}
+use Rattle.widths.proofs.Widths.{layout-roomy, count-is}
 use Rattle.packed.proofs.Words.{Sofar, Fits64, field-is, sofar-first, sofar-own, sofar-none, sofar-last, own-room, word-room, sofar-fits}
 use Rattle.packed.proofs.tables_of.Statement.{statement}
 use Rattle.packed.proofs.tables_of.Tie as tie

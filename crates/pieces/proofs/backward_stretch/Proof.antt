@@ -2,7 +2,7 @@
 use mathlib.Core.Path.{_≡_, refl, sym, ap, _∙_}
 use native.Mathlib.Omega.{arith}
 use Rattle.jumbled.specs.Fields.{layoutOf}
-use Rattle.packed.proofs.Widths.{layout-2, layout-3}
+use Rattle.widths.proofs.Widths.{layout-2, layout-3}
 use Rattle.pieces.proofs.Scans.{scan-2, scan-3, scan-4, same-fields}
 use Rattle.pieces.proofs.backward_stretch.Statement.{statement}
 use Rattle.pieces.proofs.backward_stretch.Tie as tie

@@ -1,12 +1,12 @@
--- `packed::shared_width` meets its contract, by the laws of the layouts of each method. Assumes nothing.
+-- `widths::shared_width` meets its contract, by the laws of the layouts of each method. Assumes nothing.
 use mathlib.Core.Path.{sym, ap, _∙_}
 use Prim.Native.Nat.{ℕ, _+_}
 use native.Mathlib.Omega.{arith}
 use borrow.Author.Needs.{needs}
 use Rattle.jumbled.specs.Fields.{lg, Layout}
-use Rattle.packed.proofs.Widths.{lg-le, layout-2, layout-3, layout-4, layout-none}
-use Rattle.packed.proofs.shared_width.Statement.{statement}
-use Rattle.packed.proofs.shared_width.Tie as tie
+use Rattle.widths.proofs.Widths.{lg-le, layout-2, layout-3, layout-4, layout-none}
+use Rattle.widths.proofs.shared_width.Statement.{statement}
+use Rattle.widths.proofs.shared_width.Tie as tie
 
 lg-requires : tie.Need-lg-requires
 lg-requires c κs = search needs

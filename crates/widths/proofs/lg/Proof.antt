@@ -1,13 +1,13 @@
--- `packed::lg` meets its contract. The loop's invariant: the power is 2^e, and e has not passed lg(v). Assumes nothing.
+-- `widths::lg` meets its contract. The loop's invariant: the power is 2^e, and e has not passed lg(v). Assumes nothing.
 use mathlib.Core.Path.{_≡_, refl}
 use Prim.Native.Nat.{_-_, _^_, _≤_, _<_}
 use native.Mathlib.Nat.{pow-suc}
 use native.Mathlib.Numerals.{add-one}
 use native.Mathlib.Omega.{arith}
 use Rattle.jumbled.specs.Fields.{lg}
-use Rattle.packed.proofs.Widths.{lg-le, lg-more, lg-reached}
-use Rattle.packed.proofs.lg.Statement.{statement}
-use Rattle.packed.proofs.lg.Tie as tie
+use Rattle.widths.proofs.Widths.{lg-le, lg-more, lg-reached}
+use Rattle.widths.proofs.lg.Statement.{statement}
+use Rattle.widths.proofs.lg.Tie as tie
 
 abbrev Inv-loop : tie.InvT-loop
 Inv-loop v e₀ power₀ e power = (power ≡ 2 ^ e) × (e ≤ lg v)

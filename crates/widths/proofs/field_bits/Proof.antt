@@ -1,12 +1,12 @@
--- `packed::field_bits` meets its contract: the fields are the pattern's own and the shared one. Assumes nothing.
+-- `widths::field_bits` meets its contract: the fields are the pattern's own and the shared one. Assumes nothing.
 use mathlib.Core.Path.{sym, ap₂, _∙_}
 use Prim.Native.Nat.{_+_}
 use native.Mathlib.Omega.{arith}
 use borrow.Author.Needs.{needs}
 use Rattle.jumbled.specs.Fields.{layoutOf}
-use Rattle.packed.proofs.Widths.{layout-narrow, widths-most, bits-split}
-use Rattle.packed.proofs.field_bits.Statement.{statement}
-use Rattle.packed.proofs.field_bits.Tie as tie
+use Rattle.widths.proofs.Widths.{layout-narrow, widths-most, bits-split}
+use Rattle.widths.proofs.field_bits.Statement.{statement}
+use Rattle.widths.proofs.field_bits.Tie as tie
 
 own-bits-requires : tie.Need-own-bits-requires
 own-bits-requires c κs = search needs

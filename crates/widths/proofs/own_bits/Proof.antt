@@ -1,4 +1,4 @@
--- `packed::own_bits` meets its contract. The loop's invariant: the total is the sum of the widths of the bytes passed. Assumes nothing.
+-- `widths::own_bits` meets its contract. The loop's invariant: the total is the sum of the widths of the bytes passed. Assumes nothing.
 use mathlib.Core.Path.{_≡_, sym, ap, ap₂, _∙_}
 use mathlib.Core.Logic.{⊎-elim}
 use Prim.Native.Nat.{ℕ, _+_, _-_, _≤_}
@@ -10,9 +10,9 @@ use Rattle.jumbled.specs.Fields.{layoutOf, widthOf}
 use Rattle.jumbled.proofs.Sums.{sum-zero, sum-suc}
 use Rattle.jumbled.proofs.Counts.{cc-length}
 use Rattle.jumbled.proofs.Overflow.{width-none, width-own}
-use Rattle.packed.proofs.Widths.{count-is, layout-narrow, widths-most}
-use Rattle.packed.proofs.own_bits.Statement.{statement}
-use Rattle.packed.proofs.own_bits.Tie as tie
+use Rattle.widths.proofs.Widths.{count-is, layout-narrow, widths-most}
+use Rattle.widths.proofs.own_bits.Statement.{statement}
+use Rattle.widths.proofs.own_bits.Tie as tie
 
 abbrev Inv-loop : tie.InvT-loop
 Inv-loop pattern k method counts total₀ byte₀ total byte = (byte ≤ 256) × (total ≡ sum byte (widthOf pattern (layoutOf k method)))

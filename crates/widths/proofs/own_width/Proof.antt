@@ -1,12 +1,12 @@
--- `packed::own_width` meets its contract, by the laws of the layouts of each method. Assumes nothing.
+-- `widths::own_width` meets its contract, by the laws of the layouts of each method. Assumes nothing.
 use mathlib.Core.Path.{sym, ap, _∙_}
 use Prim.Native.Nat.{ℕ, _+_}
 use native.Mathlib.Omega.{arith}
 use borrow.Author.Needs.{needs}
 use Rattle.jumbled.specs.Fields.{lg, Layout}
-use Rattle.packed.proofs.Widths.{lg-le, layout-4, layout-none, own-2-3}
-use Rattle.packed.proofs.own_width.Statement.{statement}
-use Rattle.packed.proofs.own_width.Tie as tie
+use Rattle.widths.proofs.Widths.{lg-le, layout-4, layout-none, own-2-3}
+use Rattle.widths.proofs.own_width.Statement.{statement}
+use Rattle.widths.proofs.own_width.Tie as tie
 
 larger-requires : tie.Need-larger-requires
 larger-requires c κs = search needs
