@@ -1,45 +1,13 @@
 // Method 1 (document 01, "The five methods"): the bytes of a sliding window are counted. How the window slides is said in the crate forward.
-ghost use Rattle.count.specs.Counting.{CountStartable, CountStarted, CountSearchable, CountSearched};
+ghost use Rattle.count.specs.Counting.{CountSearchable, CountSearched};
+use leads::Sliding;
 use listing::Stretch;
-
-// How often each byte occurs among some bytes, and their excess over the pattern.
-pub struct Sliding {
-    pub counts: [usize; 256],
-    pub surplus: usize,
-}
-
-// The state before a text's first window, and the inspections that it took.
-pub struct CountStart {
-    pub sliding: Sliding,
-    pub looks: usize,
-}
 
 // The state after the windows of a stretch, the list's next place and the inspections.
 pub struct Counted {
     pub sliding: Sliding,
     pub at: usize,
     pub looks: usize,
-}
-
-// The bytes of the first window but its last are taken.
-pub fn count_start(pattern: &[u8], pattern_counts: [usize; 256], text: &[u8]) -> CountStart
-    requires { ⌜ CountStartable (now pattern) «pattern_counts» (now text) ⌝ }
-    ensures { λ r. ⌜ CountStarted (now (pattern .entry)) (now (text .entry)) r ⌝ }
-{
-    let mut counts = [0usize; 256];
-    let mut surplus = 0;
-    let mut looks = 0;
-    for i in 0..pattern.len() - 1 {
-        let taken = text[i] as usize;
-        looks += 1;
-        // The pattern's share of this byte may be used up.
-        surplus += (counts[taken] >= pattern_counts[taken]) as usize;
-        counts[taken] += 1;
-    }
-    CountStart {
-        sliding: Sliding { counts, surplus },
-        looks,
-    }
 }
 
 // A window is listed where its surplus is at most k.

@@ -1,2 +1,2 @@
-pub mod Hashing
-pub mod Verifying
+mod Judging
+mod Verifying

@@ -1,7 +1,7 @@
--- What the functions of method 5 ask and yield: document 01, "The five methods", 5.
+-- What the windows of method 5 ask and yield: document 01, "The five methods", 5.
 use mathlib.Core.Path.{_≡_}
 use mathlib.Core.List.{List}
-use Prim.Native.Nat.{ℕ, _-_, _≤_}
+use Prim.Native.Nat.{ℕ, _-_}
 use lib.ListN.{length}
 use Rattle.jumbled.specs.Scan.{forward}
 use Rattle.jumbled.specs.Heap.{heapSum}
@@ -11,22 +11,8 @@ use Rattle.heap.specs.declared.HeapTable.{HeapTable}
 use Rattle.heap.specs.Table.{HeapTabled}
 use Rattle.listing.specs.declared.Stretch.{Stretch}
 use Rattle.listing.specs.Loops.{Fitting, Listed}
-use Rattle.hcam.specs.declared.HcamStart.{HcamStart}
-use Rattle.hcam.specs.declared.Hashed.{Hashed}
 use Rattle.forward.specs.Windows.{lead}
-
--- ---- the bytes before the first window's last
-
-pub record HcamStartable (P : List ℕ) (table : HeapTable) (T : List ℕ) : Type 0 where
-  pub some : 1 ≤ length P
-  pub tabled : HeapTabled P table
-  pub enough : length P - 1 ≤ length T
-
-pub record HcamStarted (P T : List ℕ) (r : HcamStart) : Type 0 where
-  pub state : r .sum ≡ heapSum P (lead (length P) T 0)
-  pub inspected : r .looks ≡ length P - 1
-
--- ---- the windows of a stretch
+use Rattle.hcam.specs.declared.Hashed.{Hashed}
 
 pub record HcamSearchable (P counts : List ℕ) (table : HeapTable) (target : ℕ) (T : List ℕ) (sum : ℕ) (stretch : Stretch) (list : List ℕ)
     : Type 0 where

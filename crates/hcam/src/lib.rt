@@ -4,49 +4,16 @@ ghost use mathlib.Core.Path.{_≡_};
 ghost use mathlib.Core.List.{List};
 ghost use Prim.Native.Nat.{ℕ};
 ghost use Rattle.jumbled.specs.Match.{matches};
-ghost use Rattle.jumbled.specs.Heap.{heapValue, heapSum};
-ghost use Rattle.parikh.specs.Table.{tabulate, parikh};
-ghost use Rattle.hcam.specs.Hashing.{HcamStartable, HcamStarted, HcamSearchable, HcamSearched};
+ghost use Rattle.parikh.specs.Table.{parikh};
+ghost use Rattle.hcam.specs.Hashing.{HcamSearchable, HcamSearched};
 use heap::HeapTable;
 use listing::Stretch;
-
-// The sum before a text's first window, and the inspections that it took.
-pub struct HcamStart {
-    pub sum: u64,
-    pub looks: usize,
-}
 
 // The sum after the windows of a stretch, the list's next place and the inspections.
 pub struct Hashed {
     pub sum: u64,
     pub at: usize,
     pub looks: usize,
-}
-
-// The sum of the bytes' values, modulo 2^64.
-pub fn hcam_sum(values: [u64; 256], bytes: &[u8]) -> u64
-    ensures { λ r. ⌜ ((P : List ℕ) → values ≡ tabulate 256 (heapValue P) → r ≡ heapSum P (now (bytes .entry))) ⌝ }
-{
-    let mut sum = 0;
-    for i in 0..bytes.len() {
-        let taken = bytes[i] as usize;
-        sum = std::num::wrapping_add_u64(sum, values[taken]);
-    }
-    sum
-}
-
-// The bytes of the first window but its last are taken.
-pub fn hcam_start(pattern: &[u8], table: HeapTable, text: &[u8]) -> HcamStart
-    requires { ⌜ HcamStartable (now pattern) table (now text) ⌝ }
-    ensures { λ r. ⌜ HcamStarted (now (pattern .entry)) (now (text .entry)) r ⌝ }
-{
-    let last = pattern.len() - 1;
-    let values = table.values;
-    let taken = &text[..last];
-    HcamStart {
-        sum: hcam_sum(values, taken),
-        looks: taken.len(),
-    }
 }
 
 // Whether no byte occurs in the window more often than in the pattern: a candidate is verified so, by counting.

@@ -7,7 +7,7 @@ use Rattle.jumbled.specs.Steps.{countJudged}
 use Rattle.listing.specs.declared.Stretch.{Stretch}
 use Rattle.listing.specs.Loops.{Listed}
 use Rattle.count.specs.declared.Counted.{Counted}
-use Rattle.count.specs.Counting.{Counting}
+use Rattle.leads.specs.Counting.{Counting}
 use Rattle.forward.specs.Windows.{lead}
 use Rattle.pieces.specs.Joined.{primed}
 

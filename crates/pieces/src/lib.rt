@@ -120,7 +120,7 @@ fn count_seam(
     requires { ⌜ (Startable (now pattern) (now seam) stretch (now list)) × («pattern_counts» ≡ parikh (now pattern)) ⌝ }
     ensures { λ r. ⌜ CountedSeam (now (pattern .entry)) k (now (seam .entry)) stretch (now (list .entry)) (now (list .exit)) r ⌝ }
 {
-    let start = count::count_start(pattern, pattern_counts, seam);
+    let start = leads::count_start(pattern, pattern_counts, seam);
     let mut windows = count::count_windows(
         pattern,
         pattern_counts,
@@ -176,7 +176,7 @@ fn hcam_seam(
     requires { ⌜ HashableSeam (now pattern) «pattern_counts» table target (now seam) stretch (now list) ⌝ }
     ensures { λ r. ⌜ HashedSeam (now (pattern .entry)) (now (seam .entry)) stretch (now (list .entry)) (now (list .exit)) r ⌝ }
 {
-    let start = hcam::hcam_start(pattern, table, seam);
+    let start = leads::hcam_start(pattern, table, seam);
     let mut windows = hcam::hcam_windows(
         pattern,
         pattern_counts,
@@ -199,7 +199,7 @@ fn hcam_pieces(pattern: &[u8], seam: &[u8], chunk: &[u8], split: Split, list: &m
     let counts = parikh::counts(pattern);
     let table = heap::heap_table(pattern);
     let values = table.values;
-    let target = hcam::hcam_sum(values, pattern);
+    let target = leads::hcam_sum(values, pattern);
     let first = hcam_seam(pattern, counts, table, target, seam, split.over_tail, list);
     if split.over_chunk.end == 0 {
         return Done {

@@ -1,4 +1,4 @@
--- `backward::abam` meets its contract: the outer loop's invariant is that the windows before s are done, the inner one's that the window at s
+-- `abam::abam` meets its contract: the outer loop's invariant is that the windows before s are done, the inner one's that the window at s
 -- is read down to p. Assumes nothing.
 use mathlib.Core.Path.{_≡_, _∙_}
 use mathlib.Core.Logic.{⊎-elim}

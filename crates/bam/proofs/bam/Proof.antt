@@ -1,4 +1,4 @@
--- `backward::bam` meets its contract: the outer loop's invariant is that the windows before s are done, the inner one's that the window at s
+-- `bam::bam` meets its contract: the outer loop's invariant is that the windows before s are done, the inner one's that the window at s
 -- is read down to p. Assumes nothing.
 use Prim.Native.Nat.{_+_, _-_}
 use native.Mathlib.Omega.{arith}

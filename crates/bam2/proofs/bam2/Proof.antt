@@ -1,4 +1,4 @@
--- `backward::bam2` meets its contract: the outer loop's invariant is that the windows before s are done, the inner one's that the window at s
+-- `bam2::bam2` meets its contract: the outer loop's invariant is that the windows before s are done, the inner one's that the window at s
 -- is read down to p. Assumes nothing.
 use mathlib.Core.Logic.{⊎-elim}
 use Prim.Native.Nat.{_-_}

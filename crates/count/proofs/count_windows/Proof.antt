@@ -1,4 +1,4 @@
--- `forward::count_windows` meets its contract. The loop's invariant: what the windows before s yield is listed, and the state is that of the
+-- `count::count_windows` meets its contract. The loop's invariant: what the windows before s yield is listed, and the state is that of the
 -- window at s but its last byte.
 use mathlib.Core.Path.{_≡_, refl}
 use mathlib.Core.List.{List, _∷_}
@@ -13,9 +13,10 @@ use Rattle.jumbled.specs.Steps.{countJudged}
 use Rattle.parikh.specs.Table.{parikh}
 use Rattle.listing.specs.declared.Stretch.{Stretch}
 use Rattle.forward.specs.Windows.{lead}
-use Rattle.count.specs.Counting.{Counting}
+use Rattle.leads.specs.Counting.{Counting}
 use Rattle.forward.proofs.Progress.{Progress, progress-none, kept-length, Turn, whole, last-byte, first-byte, both-bytes, by-last, by-first, lead-bytes, lead-short, has-room, has-place, has-number, has-looks, turn-listed, turn-skipped}
-use Rattle.count.proofs.Counting.{counting-more, counter-room, surplus-room, counting-less, counter-there, surplus-there, judged-right, judged-wrong, judged-unverified}
+use Rattle.leads.proofs.Counting.{counting-more, counter-room, surplus-room, counting-less, counter-there, surplus-there}
+use Rattle.count.proofs.Judging.{judged-right, judged-wrong, judged-unverified}
 use Rattle.count.proofs.count_windows.Statement.{statement}
 use Rattle.count.proofs.count_windows.Tie as tie
 

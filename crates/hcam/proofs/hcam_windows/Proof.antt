@@ -1,4 +1,4 @@
--- `forward::hcam_windows` meets its contract. The loop's invariant: what the windows before s yield is listed, and the sum is that of the
+-- `hcam::hcam_windows` meets its contract. The loop's invariant: what the windows before s yield is listed, and the sum is that of the
 -- window at s but its last byte.
 use mathlib.Core.Path.{_≡_, sym, ap, _∙_}
 use mathlib.Core.Bool.{Bool, true, false, not}
@@ -19,7 +19,8 @@ use Rattle.listing.specs.declared.Stretch.{Stretch}
 use Rattle.forward.specs.Windows.{lead}
 use Rattle.forward.proofs.Windows.{window-part}
 use Rattle.forward.proofs.Progress.{Progress, progress-none, kept-length, Turn, whole, last-byte, first-byte, both-bytes, by-last, by-first, window-whole, has-room, has-place, has-number, has-looks, turn-listed, turn-skipped}
-use Rattle.hcam.proofs.Hashing.{summing-more, summing-less, judged-other, judged-exact, judged-verified}
+use Rattle.leads.proofs.Hashing.{summing-more, summing-less}
+use Rattle.hcam.proofs.Judging.{judged-other, judged-exact, judged-verified}
 use Rattle.hcam.proofs.hcam_windows.Statement.{statement}
 use Rattle.hcam.proofs.hcam_windows.Tie as tie
 

@@ -1,4 +1,4 @@
--- `forward::verified` meets its contract. The loop's invariant: no byte passed is in the window more often than in the pattern.
+-- `hcam::verified` meets its contract. The loop's invariant: no byte passed is in the window more often than in the pattern.
 use mathlib.Core.Path.{_≡_, sym, ap, _∙_}
 use mathlib.Core.List.{List}
 use Prim.Native.Nat.{ℕ, _≤_, _<_, _-_}

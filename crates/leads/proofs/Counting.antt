@@ -8,15 +8,14 @@ use native.Mathlib.Omega.{arith}
 use lib.Dec.{leb, eqb}
 use lib.ListN.{length, getD, set, replicate}
 use mir.Val.{boolByte}
-use borrow.Author.Tests.{eq-eqb, eqb-true, le-leb, lt-leb}
-use Rattle.jumbled.specs.Match.{Bytes, bit, cc, excess, matches}
-use Rattle.jumbled.specs.Steps.{countJudged}
+use borrow.Author.Tests.{eq-eqb, eqb-true}
+use Rattle.jumbled.specs.Match.{Bytes, bit, cc, excess}
 use Rattle.jumbled.proofs.Sums.{sum-ext}
 use Rattle.jumbled.proofs.Counts.{cc-cons, cc-append, cc-length, excess-nil, excess-cons, excess-append}
 use Rattle.parikh.specs.Table.{parikh}
 use Rattle.parikh.proofs.Tables.{tabulate-ext, tabulate-set}
 use Rattle.parikh.proofs.Parikh.{getD-parikh, parikh-nil, parikh-snoc}
-use Rattle.count.specs.Counting.{Counting}
+use Rattle.leads.specs.Counting.{Counting}
 
 -- the order of bytes does not matter to their counts, nor to the excess
 cc-turned : (b : ℕ) (U : List ℕ) (c : ℕ) → cc (U ++ (b ∷ [])) c ≡ cc (b ∷ U) c
@@ -101,18 +100,3 @@ module _ {P U counts : List ℕ} {surplus b : ℕ} (state : Counting P (b ∷ U)
   pub surplus-there : {wanted : List ℕ} → wanted ≡ parikh P
       → boolByte (leb (getD wanted b 0) (getD (set counts b (getD counts b 0 - 1)) b 0)) ≤ surplus
   surplus-there known = omega (arith, surplus-less known)
-
--- ---- a window is judged
-
-module _ {P W counts : List ℕ} {surplus : ℕ} (state : Counting P W counts surplus) {k : ℕ} where
-  pub judged-right : surplus ≤ k → countJudged P k W .listed ≡ true
-  unfolding countJudged matches
-  judged-right h = le-leb (excess P W) k (omega (arith, state .exceeding))
-
-  pub judged-wrong : k < surplus → countJudged P k W .listed ≡ false
-  unfolding countJudged matches
-  judged-wrong h = lt-leb (excess P W) k (omega (arith, state .exceeding))
-
-pub judged-unverified : (P : List ℕ) (k : ℕ) (W : List ℕ) → countJudged P k W .verification ≡ 0
-unfolding countJudged
-judged-unverified P k W = refl

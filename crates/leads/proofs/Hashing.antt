@@ -1,19 +1,14 @@
 -- How a sum of heap values follows the bytes that are taken and given up.
 use mathlib.Core.Path.{_≡_, refl, sym, _∙_}
-use mathlib.Core.Bool.{true, false}
 use mathlib.Core.List.{List, [], _∷_, _++_}
 use Prim.Native.Nat.{ℕ, _+_, _%_, _^_, _<_}
 use native.Mathlib.Nat.{mod-lt}
 use native.Mathlib.Omega.{arith}
 use lib.Dec.{lit<}
-use lib.ListN.{length, getD}
-use borrow.Author.Tests.{eq-eqb, ne-eqb}
-use Rattle.jumbled.specs.Match.{matches}
-use Rattle.jumbled.specs.Heap.{heapValue, heapSum, exact}
+use lib.ListN.{getD}
+use Rattle.jumbled.specs.Heap.{heapValue, heapSum}
 use Rattle.parikh.specs.Table.{tabulate}
 use Rattle.parikh.proofs.Tables.{getD-tabulate}
-use Rattle.jumbled.specs.Scan.{unverified}
-use Rattle.jumbled.specs.Steps.{hcamJudged}
 
 heapSum-below : (P U : List ℕ) → heapSum P U < 2 ^ 64
 unfolding heapSum
@@ -47,19 +42,3 @@ module _ (P : List ℕ) {values : List ℕ} (known : values ≡ tabulate 256 (he
 
   pub summing-less : {sum rest : ℕ} → sum ≡ heapSum P (b ∷ U) → rest < 2 ^ 64 → (rest + getD values b 0) % 2 ^ 64 ≡ sum → rest ≡ heapSum P U
   summing-less {rest = rest} state fits taken = heapSum-rest P U b rest fits (rw value-at at (taken ∙ state))
-
--- ---- a window is judged
-
-module _ (P W : List ℕ) where
-  pub judged-other : (heapSum P W ≡ heapSum P P → ⊥) → hcamJudged P W ≡ unverified false
-  unfolding hcamJudged
-  judged-other h = rw (ne-eqb (heapSum P W) (heapSum P P) h) refl
-
-  pub judged-exact : heapSum P W ≡ heapSum P P → exact P ≡ true → hcamJudged P W ≡ unverified true
-  unfolding hcamJudged
-  judged-exact h e = rw (eq-eqb (heapSum P W) (heapSum P P) h, e) refl
-
-  pub judged-verified : heapSum P W ≡ heapSum P P → exact P ≡ false
-      → hcamJudged P W ≡ record { listed = matches P 0 W; verification = length P }
-  unfolding hcamJudged
-  judged-verified h e = rw (eq-eqb (heapSum P W) (heapSum P P) h, e) refl

@@ -1,11 +1,11 @@
--- `forward::hcam_start` meets its contract: the bytes summed are the first m - 1.
+-- `leads::hcam_start` meets its contract: the bytes summed are the first m - 1.
 use mathlib.Core.Path.{sym}
 use Prim.Native.Nat.{_-_}
 use lib.ListN.{length}
 use lib.Seq.{length-take-le}
 use borrow.Author.Needs.{needs}
-use Rattle.hcam.proofs.hcam_start.Statement.{statement}
-use Rattle.hcam.proofs.hcam_start.Tie as tie
+use Rattle.leads.proofs.hcam_start.Statement.{statement}
+use Rattle.leads.proofs.hcam_start.Tie as tie
 
 sub-last : tie.Need-sub-last
 sub-last c = search needs

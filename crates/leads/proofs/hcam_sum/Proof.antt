@@ -1,4 +1,4 @@
--- `forward::hcam_sum` meets its contract. The loop's invariant: the sum is that of the bytes passed.
+-- `leads::hcam_sum` meets its contract. The loop's invariant: the sum is that of the bytes passed.
 use mathlib.Core.Path.{_≡_, sym, ap, _∙_}
 use mathlib.Core.List.{List}
 use Prim.Native.Nat.{ℕ, _≤_, _<_, _-_}
@@ -8,9 +8,9 @@ use lib.Seq.{take-all}
 use Rattle.jumbled.specs.Heap.{heapValue, heapSum}
 use Rattle.parikh.specs.Table.{tabulate}
 use Rattle.forward.proofs.Windows.{take-next}
-use Rattle.hcam.proofs.Hashing.{heapSum-nil, summing-more}
-use Rattle.hcam.proofs.hcam_sum.Statement.{statement}
-use Rattle.hcam.proofs.hcam_sum.Tie as tie
+use Rattle.leads.proofs.Hashing.{heapSum-nil, summing-more}
+use Rattle.leads.proofs.hcam_sum.Statement.{statement}
+use Rattle.leads.proofs.hcam_sum.Tie as tie
 
 abbrev Inv-loop : tie.InvT-loop
 Inv-loop bytes values sum₀ i₀ i-end sum i =

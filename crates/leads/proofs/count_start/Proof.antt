@@ -1,4 +1,4 @@
--- `forward::count_start` meets its contract. The loop's invariant: the state is that of the bytes passed, each inspected once.
+-- `leads::count_start` meets its contract. The loop's invariant: the state is that of the bytes passed, each inspected once.
 use mathlib.Core.Path.{_≡_, refl, _∙_}
 use mathlib.Core.List.{List}
 use Prim.Native.Nat.{ℕ, _≤_, _<_, _-_}
@@ -7,11 +7,11 @@ use lib.Dec.{leb}
 use lib.ListN.{length, getD, take, length-take}
 use Rattle.jumbled.specs.Match.{Bytes}
 use Rattle.jumbled.proofs.Counts.{bytes-take}
-use Rattle.count.specs.Counting.{Counting}
+use Rattle.leads.specs.Counting.{Counting}
 use Rattle.forward.proofs.Windows.{take-next}
-use Rattle.count.proofs.Counting.{counting-none, counting-more, counter-room, surplus-room}
-use Rattle.count.proofs.count_start.Statement.{statement}
-use Rattle.count.proofs.count_start.Tie as tie
+use Rattle.leads.proofs.Counting.{counting-none, counting-more, counter-room, surplus-room}
+use Rattle.leads.proofs.count_start.Statement.{statement}
+use Rattle.leads.proofs.count_start.Tie as tie
 
 -- What holds after the first i bytes
 record Passed (P T counts : List ℕ) (surplus looks i : ℕ) : Type 0 where
