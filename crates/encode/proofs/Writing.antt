@@ -5,42 +5,14 @@ use Prim.Native.Nat.{ℕ, _+_, _≤_, _<_}
 use native.Mathlib.Nat.{zero-add}
 use native.Mathlib.Numerals.{add-one}
 use native.Mathlib.Omega.{arith}
-use lib.ListN.{length, getD, take, drop, set, length-append, drop-of-length-le}
-use lib.Seq.{take-suc, drop-cons, length-take-le}
+use lib.ListN.{length, getD, take, drop, length-append, drop-of-length-le}
+use lib.Seq.{drop-cons}
 use Rattle.listing.specs.Placed.{placed}
-use Rattle.listing.proofs.Placing.{placed-nil, length-placed, take-placed, placed-placed, placed-next}
-use Rattle.image.specs.Image.{Parts, partsWith, body, each, entries, image, IsOrder, saveOrder}
-use Rattle.encode.specs.Writing.{Put, Encoded, numbersWith, bodyFrom}
-
--- one byte more of the source
-pub placed-byte : (list : List ℕ) (at : ℕ) (source : List ℕ) (i : ℕ) → at + i < length list → i < length source
-    → set (placed list at (take i source)) (at + i) (getD source i 0) ≡ placed list at (take (i + 1) source)
-placed-byte list at source i room more =
-    let few : length (take i source) ≡ i = length-take-le i source (omega arith) in
-    ap (λ (n : ℕ). set (placed list at (take i source)) (at + n) (getD source i 0)) (sym few)
-    ∙ placed-next list at (take i source) (getD source i 0) (rw few room)
-    ∙ ap (placed list at) (sym (take-suc source i 0 more) ∙ ap (λ (n : ℕ). take n source) (sym (add-one i)))
-
--- the bodies that the code writes are those of the parts
-pub body-written : (P : List ℕ) (k method n : ℕ) (tail : List ℕ) → bodyFrom P (numbersWith k method n) tail ≡ body (partsWith P k method n tail)
-unfolding bodyFrom body
-body-written P k method n tail = refl
-
--- a buffer keeps its length,
-pub put-length : {bytes before after : List ℕ} {at next : ℕ} → Put bytes before after at next → at + length bytes ≤ length before
-    → length after ≡ length before
-put-length {bytes} {before} {after} {at} put room = ap length (put .filled) ∙ length-placed before at bytes room
-
--- and what is put after other bytes stands with them
-pub put-put : {first second before between after : List ℕ} {at middle next : ℕ} → Put first before between at middle
-    → Put second between after middle next → at + length first ≤ length before → Put (first ++ second) before after at next
-put-put {first} {second} {before} {between} {after} {at} one two room =
-    record {
-      filled = two .filled
-          ∙ ap₂ (λ (l : List ℕ) (n : ℕ). placed l n second) (one .filled) (one .place-after)
-          ∙ placed-placed before at first room second;
-      place-after = omega (arith, one .place-after, two .place-after, length-append first second);
-    }
+use Rattle.listing.proofs.Placing.{placed-nil, take-placed, placed-placed}
+use Rattle.image.specs.Image.{Parts, body, each, entries, image, IsOrder, saveOrder}
+use Rattle.copying.specs.Put.{Put}
+use Rattle.copying.proofs.Putting.{put-length, put-put}
+use Rattle.encode.specs.Writing.{Encoded}
 
 -- the first byte, the entries and the bodies, put one after the other, are the image
 pub put-image : {f : ℕ → List ℕ} {parts : Parts} {before after-first after-entries after : List ℕ} {at start next : ℕ} → f ≡ body parts

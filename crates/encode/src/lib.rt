@@ -4,52 +4,16 @@ ghost use mathlib.Core.Path.{_≡_};
 ghost use Prim.Native.Nat.{_+_, _≤_};
 ghost use lib.ListN.{length};
 ghost use Rattle.image.specs.Image.{partsWith, entry, each, entries, saveOrder};
-ghost use Rattle.encode.specs.Writing.{numbersWith, bodyFrom, Put, Encoded};
+ghost use Rattle.copying.specs.Put.{Put};
+ghost use Rattle.bodies.specs.Bodies.{bodyFrom};
+ghost use Rattle.encode.specs.Writing.{Encoded};
+use bodies::body_to_save;
+use bodies::numbers_of;
+use copying::copy_in;
 use image::HEAD;
 
 // The order in which every save writes the entries and their bodies: stated here and in image/specs/, and nowhere else.
 const ORDER: [u8; 4] = [1, 2, 3, 4];
-
-// All of source, put into the buffer from a place on; the place after it is given.
-pub fn copy_in(source: &[u8], buffer: &mut [u8], at: usize) -> usize
-    requires { ⌜ at + length (now source) ≤ length (now buffer) ⌝ }
-    ensures { λ r. ⌜ Put (now (source .entry)) (now (buffer .entry)) (now (buffer .exit)) at r ⌝ }
-{
-    let mut i = 0;
-    while i < source.len() {
-        buffer[at + i] = source[i];
-        i += 1;
-    }
-    at + i
-}
-
-// k and method, one byte each, and the total n in four, low byte first.
-fn numbers_of(k: u8, method: u8, total: u32) -> [u8; 6]
-    ensures { λ r. ⌜ r ≡ numbersWith k method total ⌝ }
-{
-    [
-        k,
-        method,
-        (total % 256) as u8,
-        (total / 256 % 256) as u8,
-        (total / 256 / 256 % 256) as u8,
-        (total / 256 / 256 / 256 % 256) as u8,
-    ]
-}
-
-// The body to be saved under a kind; numbers are the six bytes that numbers_of gives.
-fn body_to_save<'a>(kind: u8, pattern: &'a [u8], numbers: &'a [u8], tail: &'a [u8]) -> &'a [u8]
-    requires { ⌜ length (now numbers) ≡ 6 ⌝ }
-    ensures { λ r. ⌜ now r ≡ bodyFrom (now (pattern .entry)) (now (numbers .entry)) (now (tail .entry)) kind ⌝ }
-{
-    match kind {
-        1 => pattern,
-        2 => &numbers[..2],
-        3 => &numbers[2..],
-        4 => tail,
-        _ => &numbers[..0],
-    }
-}
 
 // An entry, put into the buffer from a place on.
 fn put_entry(kind: u8, len: usize, buffer: &mut [u8], at: usize) -> usize

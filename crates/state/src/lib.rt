@@ -19,7 +19,7 @@ pub fn stored_pattern(source: &[u8]) -> [u8; 64]
     ensures { λ r. ⌜ r ≡ padded 64 (now (source .entry)) ⌝ }
 {
     let mut bytes = [0u8; 64];
-    encode::copy_in(source, &mut bytes, 0);
+    copying::copy_in(source, &mut bytes, 0);
     bytes
 }
 
@@ -29,7 +29,7 @@ pub fn stored_tail(source: &[u8]) -> [u8; 63]
     ensures { λ r. ⌜ r ≡ padded 63 (now (source .entry)) ⌝ }
 {
     let mut bytes = [0u8; 63];
-    encode::copy_in(source, &mut bytes, 0);
+    copying::copy_in(source, &mut bytes, 0);
     bytes
 }
 
@@ -44,8 +44,8 @@ pub fn next_tail(tail: &[u8], chunk: &[u8], keep: usize) -> [u8; 63]
     }
     let mut bytes = [0u8; 63];
     let from = tail.len() + chunk.len() - keep;
-    let at = encode::copy_in(&tail[from..], &mut bytes, 0);
-    encode::copy_in(chunk, &mut bytes, at);
+    let at = copying::copy_in(&tail[from..], &mut bytes, 0);
+    copying::copy_in(chunk, &mut bytes, at);
     bytes
 }
 

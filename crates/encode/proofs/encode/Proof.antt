@@ -5,10 +5,12 @@ use Prim.Native.Nat.{ℕ, _≤_}
 use native.Mathlib.Omega.{arith}
 use lib.ListN.{length}
 use Rattle.image.specs.Image.{body, partsWith, each, saveOrder}
-use Rattle.encode.specs.Writing.{bodyFrom}
+use Rattle.bodies.specs.Bodies.{bodyFrom}
 use Rattle.image.proofs.Numbers.{length-lowFirst}
 use Rattle.image.proofs.Images.{length-entries, length-in-order, save-order}
-use Rattle.encode.proofs.Writing.{body-written, put-length, put-image}
+use Rattle.copying.proofs.Putting.{put-length}
+use Rattle.bodies.proofs.Bodies.{body-written}
+use Rattle.encode.proofs.Writing.{put-image}
 use borrow.Author.Needs.{needs}
 use Rattle.encode.proofs.encode.Statement.{statement}
 use Rattle.encode.proofs.encode.Tie as tie

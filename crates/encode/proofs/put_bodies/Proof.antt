@@ -2,7 +2,7 @@
 use Prim.Native.Nat.{_≤_, _-_}
 use native.Mathlib.Omega.{arith}
 use Rattle.image.specs.Image.{saveOrder}
-use Rattle.encode.specs.Writing.{bodyFrom}
+use Rattle.bodies.specs.Bodies.{bodyFrom}
 use Rattle.image.proofs.Images.{save-order}
 use Rattle.encode.proofs.Writing.{Left, left-first, left-room, left-next, left-last}
 use Rattle.encode.proofs.put_bodies.Statement.{statement}

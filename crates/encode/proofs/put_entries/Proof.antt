@@ -5,7 +5,7 @@ use Prim.Native.Nat.{ℕ, _≤_, _-_}
 use native.Mathlib.Omega.{arith}
 use lib.ListN.{length, getD}
 use Rattle.image.specs.Image.{lowFirst, entry, saveOrder}
-use Rattle.encode.specs.Writing.{bodyFrom}
+use Rattle.bodies.specs.Bodies.{bodyFrom}
 use Rattle.image.proofs.Images.{save-order}
 use Rattle.encode.proofs.Writing.{Left, left-first, left-room, left-next, left-last}
 use Rattle.encode.proofs.put_entries.Statement.{statement}

@@ -1,11 +1,11 @@
--- `decode::all_lengths` meets its contract: the sum and the lengths still to come are the four lengths.
+-- `entries::all_lengths` meets its contract: the sum and the lengths still to come are the four lengths.
 use mathlib.Core.Path.{_≡_, ap}
 use Prim.Native.Nat.{_≤_, _+_, _-_, _*_}
 use native.Mathlib.Omega.{arith}
 use Rattle.image.specs.Decode.{contents, lengths}
 use Rattle.image.proofs.Contents.{entriesFrom, from-first, from-next, from-last}
-use Rattle.decode.proofs.all_lengths.Statement.{statement}
-use Rattle.decode.proofs.all_lengths.Tie as tie
+use Rattle.entries.proofs.all_lengths.Statement.{statement}
+use Rattle.entries.proofs.all_lengths.Tie as tie
 
 abbrev Inv-loop : tie.InvT-loop
 Inv-loop image sum₀ i₀ sum i = (i ≤ 4) × (sum ≤ 65535 * i) × (sum + lengths (entriesFrom image i) ≡ lengths (contents image))

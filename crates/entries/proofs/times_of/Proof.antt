@@ -1,4 +1,4 @@
--- `decode::times_of` meets its contract: those found and those still to come are all of the kind.
+-- `entries::times_of` meets its contract: those found and those still to come are all of the kind.
 use mathlib.Core.Path.{_≡_, ap, _∙_}
 use mathlib.Core.Logic.{⊎-elim}
 use Prim.Native.Nat.{_≤_, _+_, _-_, _*_}
@@ -8,8 +8,8 @@ use lib.ListN.{getD}
 use Rattle.jumbled.specs.Match.{bit}
 use Rattle.image.specs.Decode.{contents, times}
 use Rattle.image.proofs.Contents.{entriesFrom, entryAt, from-first, from-next, from-last, times-nil, times-cons}
-use Rattle.decode.proofs.times_of.Statement.{statement}
-use Rattle.decode.proofs.times_of.Tie as tie
+use Rattle.entries.proofs.times_of.Statement.{statement}
+use Rattle.entries.proofs.times_of.Tie as tie
 
 abbrev Inv-loop : tie.InvT-loop
 Inv-loop image kind found₀ i₀ found i = (i ≤ 4) × (found ≤ i) × (found + times kind (entriesFrom image i) ≡ times kind (contents image))

@@ -1,9 +1,9 @@
--- `encode::numbers_of` meets its contract.
+-- `bodies::numbers_of` meets its contract.
 use mathlib.Core.Path.{refl}
 use Rattle.image.specs.Image.{lowFirst}
 use borrow.Author.Needs.{needs}
-use Rattle.encode.proofs.numbers_of.Statement.{statement}
-use Rattle.encode.proofs.numbers_of.Tie as tie
+use Rattle.bodies.proofs.numbers_of.Statement.{statement}
+use Rattle.bodies.proofs.numbers_of.Tie as tie
 
 cast-t5 : tie.Need-cast-t5
 cast-t5 c = search needs

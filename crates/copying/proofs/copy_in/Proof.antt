@@ -1,4 +1,4 @@
--- `encode::copy_in` meets its contract: after i turns the first i bytes of the source stand in the buffer.
+-- `copying::copy_in` meets its contract: after i turns the first i bytes of the source stand in the buffer.
 use mathlib.Core.Path.{_≡_, refl, sym, ap, _∙_}
 use mathlib.Core.List.{List}
 use Prim.Native.Nat.{ℕ, _≤_, _+_, _-_}
@@ -7,9 +7,9 @@ use lib.ListN.{length, getD, set, take, length-set}
 use lib.Seq.{take-all}
 use Rattle.listing.specs.Placed.{placed}
 use Rattle.listing.proofs.Placing.{placed-nil}
-use Rattle.encode.proofs.Writing.{placed-byte}
-use Rattle.encode.proofs.copy_in.Statement.{statement}
-use Rattle.encode.proofs.copy_in.Tie as tie
+use Rattle.copying.proofs.Putting.{placed-byte}
+use Rattle.copying.proofs.copy_in.Statement.{statement}
+use Rattle.copying.proofs.copy_in.Tie as tie
 
 abbrev Inv-loop : tie.InvT-loop
 Inv-loop source buffer₀ at i₀ buffer i = (i ≤ length source) × (length buffer ≡ length buffer₀) × (buffer ≡ placed buffer₀ at (take i source))

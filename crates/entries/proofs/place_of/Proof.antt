@@ -1,11 +1,11 @@
--- `decode::place_of` meets its contract: the start and the lengths still to come before the kind's entry are where its body starts.
+-- `entries::place_of` meets its contract: the start and the lengths still to come before the kind's entry are where its body starts.
 use mathlib.Core.Path.{_≡_, sym, ap, _∙_}
 use Prim.Native.Nat.{_≤_, _+_, _-_, _*_}
 use native.Mathlib.Omega.{arith}
 use Rattle.image.specs.Decode.{lengthIn, lengthsBefore, lengthOf, startOf}
 use Rattle.image.proofs.Contents.{entriesFrom, from-first, from-last, found-here, found-later}
-use Rattle.decode.proofs.place_of.Statement.{statement}
-use Rattle.decode.proofs.place_of.Tie as tie
+use Rattle.entries.proofs.place_of.Statement.{statement}
+use Rattle.entries.proofs.place_of.Tie as tie
 
 abbrev Inv-loop : tie.InvT-loop
 Inv-loop image kind start₀ i₀ start i =

@@ -1,10 +1,10 @@
--- `decode::length_at` meets its contract: each of the two bytes is below 256.
+-- `entries::length_at` meets its contract: each of the two bytes is below 256.
 use native.Mathlib.Omega.{arith}
 use mathlib.Core.Path.{refl}
 use Prim.Native.Nat.{_+_, _*_}
 use borrow.Author.Needs.{needs}
-use Rattle.decode.proofs.length_at.Statement.{statement}
-use Rattle.decode.proofs.length_at.Tie as tie
+use Rattle.entries.proofs.length_at.Statement.{statement}
+use Rattle.entries.proofs.length_at.Tie as tie
 
 mul-result : tie.Need-mul-result
 mul-result c = search needs

@@ -1,4 +1,4 @@
--- `encode::body_to_save` meets its contract: an arm a kind.
+-- `bodies::body_to_save` meets its contract: an arm a kind.
 use mathlib.Core.Path.{refl}
 use Prim.Native.Nat.{_-_}
 use native.Mathlib.Omega.{arith}
@@ -6,9 +6,9 @@ use lib.ListN.{length, drop, length-drop, length-take}
 use lib.Seq.{take-all}
 use borrow.Author.Needs.{needs}
 use borrow.Author.Tests.{ne-eqb}
-use Rattle.encode.specs.Writing.{bodyFrom}
-use Rattle.encode.proofs.body_to_save.Statement.{statement}
-use Rattle.encode.proofs.body_to_save.Tie as tie
+use Rattle.bodies.specs.Bodies.{bodyFrom}
+use Rattle.bodies.proofs.body_to_save.Statement.{statement}
+use Rattle.bodies.proofs.body_to_save.Tie as tie
 
 slice-aggregate-result : tie.Need-slice-aggregate-result
 slice-aggregate-result c = omega (arith, length-take 2 (c .before .before .args .numbers .now))
