@@ -1,4 +1,4 @@
-// How a search loop is told what to search and where its positions go; what it then says it did is in specs/.
+// How a search loop is told what to search and where its positions go, and what a search hands back; what it then says it did is in specs/.
 
 // The window starts of a slice that a loop searches, and where their positions go.
 pub struct Stretch {
@@ -10,4 +10,10 @@ pub struct Stretch {
     pub base: usize,
     // The list's next place.
     pub at: usize,
+}
+
+// How many positions a search found, and the inspections that it made.
+pub struct Done {
+    pub found: usize,
+    pub looks: usize,
 }

@@ -1,4 +1,4 @@
--- The steps of a method by its number, as the drivers that the functions here run.
+-- The steps of a method by its number, as the driver that the method's function runs.
 use mathlib.Core.Path.{_≡_, refl}
 use mathlib.Core.Bool.{Bool, true, false, cond}
 use mathlib.Core.List.{List}
@@ -10,8 +10,8 @@ use lib.ListN.{length}
 use Rattle.jumbled.specs.Match.{starts}
 use Rattle.jumbled.specs.Scan.{Result, nothing, backward, forward}
 use Rattle.jumbled.specs.Steps.{countJudged, hcamJudged, steps}
-use Rattle.pieces.specs.Joined.{forwardOver, backwardOver}
-use Rattle.pieces.specs.Scans.{scanOf}
+use Rattle.backward_pieces.specs.Scans.{scanOf, backwardOver}
+use Rattle.forward_pieces.specs.Starting.{forwardOver}
 
 pub steps-1 : (P : List ℕ) (k method : ℕ) (T : List ℕ) → method ≡ 1 → steps P k method T ≡ forwardOver (countJudged P k) (length P) T
 unfolding steps

@@ -1,5 +1,1 @@
-pub mod Seam
-pub mod Joined
-pub mod Counting
-pub mod Hashing
-pub mod Scans
+pub mod Searchable

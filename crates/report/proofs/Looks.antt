@@ -11,9 +11,9 @@ use Rattle.jumbled.specs.Steps.{countJudged, hcamJudged, steps}
 use Rattle.jumbled.proofs.Admission.{Admitted}
 use Rattle.jumbled.proofs.Cuts.{backward-most, forward-most}
 use Rattle.jumbled.proofs.Sums.{below-or-not}
-use Rattle.pieces.specs.Scans.{scanOf}
-use Rattle.pieces.proofs.Scans.{scan-inspections}
-use Rattle.pieces.proofs.Forwards.{hcam-few}
+use Rattle.backward_pieces.specs.Scans.{scanOf}
+use Rattle.backward_pieces.proofs.Scans.{scan-inspections}
+use Rattle.forward_pieces.proofs.Forwards.{hcam-few}
 use Rattle.pieces.proofs.Steps.{steps-1, steps-5, steps-backward}
 
 -- the first window may cost more than the others

@@ -14,8 +14,8 @@ use Rattle.listing.specs.Placed.{placed, shifted}
 use Rattle.admit.specs.Numbers.{numberOf}
 use Rattle.admit.specs.declared.Refusal.{Refusal}
 use Rattle.admit.specs.declared.Admission.the-variants as Admission
-use Rattle.pieces.specs.Joined.{Found}
-use Rattle.pieces.specs.declared.Done.{Done}
+use Rattle.listing.specs.Found.{Found}
+use Rattle.listing.specs.declared.Done.{Done}
 use Rattle.state.specs.Stored.{lastOf}
 use Rattle.state.specs.Tests.{limitNumber, unlessRefused}
 use Rattle.state.proofs.Refused.{number-positive, on-refusal, on-accepted, still-refused, tested-later}

@@ -4,7 +4,7 @@ ghost use mathlib.Core.Path.{_≡_};
 ghost use Prim.Native.Nat.{_-_};
 ghost use lib.ListN.{length};
 ghost use Rattle.jumbled.specs.Steps.{steps};
-ghost use Rattle.pieces.specs.Joined.{Found};
+ghost use Rattle.listing.specs.Found.{Found};
 ghost use Rattle.image.specs.Image.{partsWith};
 ghost use Rattle.admit.specs.Numbers.{admissionNumber};
 ghost use Rattle.state.specs.Tests.{limitNumber};

@@ -16,8 +16,8 @@ use Rattle.listing.specs.Placed.{placed}
 use Rattle.listing.proofs.Placing.{shifted-zero}
 use Rattle.admit.specs.Numbers.{numberOf}
 use Rattle.admit.specs.declared.Refusal.{Refusal}
-use Rattle.pieces.specs.Joined.{Found}
-use Rattle.pieces.specs.declared.Done.{Done}
+use Rattle.listing.specs.Found.{Found}
+use Rattle.listing.specs.declared.Done.{Done}
 use Rattle.whole.specs.declared.Answer.the-variants.{Listed, Refused}
 use Rattle.state.specs.Tests.{limitNumber, unlessRefused}
 use Rattle.state.proofs.Refused.{number-positive, on-refusal, on-accepted}

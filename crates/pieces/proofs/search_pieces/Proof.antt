@@ -6,7 +6,8 @@ use lib.ListN.{length}
 use lib.Seq.{length-take-le}
 use borrow.Author.Needs.{needs}
 use Rattle.jumbled.specs.Steps.{steps}
-use Rattle.pieces.proofs.Prepared.{found-none, parted-starts, prepared, found-joined}
+use Rattle.seam.proofs.Prepared.{parted-starts}
+use Rattle.pieces.proofs.Prepared.{found-none, prepared, found-joined}
 use Rattle.pieces.proofs.Steps.{steps-none}
 use Rattle.pieces.proofs.search_pieces.Statement.{statement}
 use Rattle.pieces.proofs.search_pieces.Tie as tie

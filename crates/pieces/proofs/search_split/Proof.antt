@@ -1,7 +1,7 @@
 -- `pieces::search_split` meets its contract: each method's function yields its steps.
 use native.Mathlib.Omega.{arith}
 use Rattle.jumbled.proofs.Admission.{method-taken}
-use Rattle.pieces.specs.Joined.{joined}
+use Rattle.seam.specs.Joined.{joined}
 use Rattle.pieces.proofs.Steps.{steps-1, steps-5, steps-backward}
 use Rattle.pieces.proofs.search_split.Statement.{statement}
 use Rattle.pieces.proofs.search_split.Tie as tie

@@ -1,0 +1,3 @@
+pub mod Starting
+pub mod Counting
+pub mod Hashing

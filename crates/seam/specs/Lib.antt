@@ -1,0 +1,2 @@
+pub mod Seam
+pub mod Joined
