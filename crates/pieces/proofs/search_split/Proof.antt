@@ -15,7 +15,8 @@ same-length c = c .before .before .count-pieces .kept .1 .1 .1 .1 .1 .0
 returns : tie.Need-returns
 returns c =
     let args = c .before .before .before .before .before .before .before .before .before .args in
-    rw (steps-1 (args .pattern .now) (args .k) (args .method) (joined (args .split) (args .seam .now) (args .chunk .now)) (c .before .before .before .before .if1 .taken)) (c .before .before .count-pieces .ensures)
+    rw (steps-1 (args .pattern .now) (args .k) (args .method) (joined (args .split) (args .seam .now) (args .chunk .now)) (omega (arith, c .before .before .before .before .if1 .taken)))
+    (c .before .before .count-pieces .ensures)
 
 hcam-pieces-requires : tie.Need-hcam-pieces-requires
 hcam-pieces-requires c κs = c .before .before .before .before .before .before .before .pre .0
@@ -26,7 +27,8 @@ same-length-2 c = c .before .before .hcam-pieces .kept .1 .1 .1 .1 .0
 returns-2 : tie.Need-returns-2
 returns-2 c =
     let args = c .before .before .before .before .before .before .before .before .before .before .args in
-    rw (steps-5 (args .pattern .now) (args .k) (args .method) (joined (args .split) (args .seam .now) (args .chunk .now)) (c .before .before .before .before .if2 .taken)) (c .before .before .hcam-pieces .ensures)
+    rw (steps-5 (args .pattern .now) (args .k) (args .method) (joined (args .split) (args .seam .now) (args .chunk .now)) (omega (arith, c .before .before .before .before .if2 .taken)))
+    (c .before .before .hcam-pieces .ensures)
 
 backward-pieces-requires : tie.Need-backward-pieces-requires
 backward-pieces-requires c κs =
