@@ -11,17 +11,16 @@ use Rattle.jumbled.specs.Refusals.{Test, given, patternTests, searchTests, feed
 use Rattle.listing.specs.Placed.{placed, shifted}
 use Rattle.image.specs.Image.{Parts, partsWith, image, saveOrder}
 use Rattle.image.specs.Decode.{badForm, partsOf}
-use Rattle.admit.specs.Numbers.{numberOf, admissionNumber}
+use Rattle.admit.specs.Numbers.{admissionNumber}
 use Rattle.state.specs.Stored.{lastOf, tailLength}
 use Rattle.state.specs.Tests.{wrongTail, partsNumber, unlessRefused}
+use Rattle.saving.specs.Saved.{savingNumber, savingLength}
 use Rattle.whole.specs.Answers.{answerNumber, answerFound, answerLooks}
 use Rattle.whole.specs.Whole.{tooLong, tooFewPlaces}
 use Rattle.search.specs.declared.Search.{Search}
 use Rattle.search.specs.declared.Held.{Held}
 use Rattle.search.specs.declared.Fed.{Fed}
 use Rattle.search.specs.declared.Kept.{Kept}
-use Rattle.search.specs.declared.Saving.{Saving}
-use Rattle.search.specs.declared.Saving.the-variants as Saving
 use Rattle.search.specs.Searches.{patternOf, tailOf, partsOfSearch, stored, blank, badTail, tooLongPattern}
 
 -- The tests of a search handed in: "1 to 5, then 9 if the tail length isn't min(n, m − 1)"
@@ -104,14 +103,6 @@ pub record SetsMethod (s : Search) (newMethod : ℕ) (r : Held) : Type 0 where
   pub search : r .search ≡ unlessRefused (setMethodNumber s newMethod) (withMethod s newMethod) s
 
 -- ---- save
-
-abbrev pub savingNumber : Saving → ℕ
-savingNumber (Saving.Written len) = 0
-savingNumber (Saving.Refused refusal) = numberOf refusal
-
-abbrev pub savingLength : Saving → ℕ
-savingLength (Saving.Written len) = len
-savingLength (Saving.Refused refusal) = 0
 
 -- The image that a save writes
 abbrev pub imageOf : Search → List ℕ

@@ -13,7 +13,8 @@ ghost use Rattle.search.specs.Calls.{handedNumber, Opened, Advancing, re
 use admit::Admission;
 use admit::Refusal;
 use pieces::Done;
-// Whole search has a crate of its own; its names are here too.
+// Whole search has a crate of its own, and so has the saving of a search's parts; the names that a caller needs are here too.
+pub use saving::Saving;
 pub use whole::Answer;
 pub use whole::whole;
 
@@ -40,12 +41,6 @@ pub struct Held {
 pub struct Fed {
     pub answer: Answer,
     pub search: Search,
-}
-
-// What a save answers: the image's length.
-pub enum Saving {
-    Written(usize),
-    Refused(Refusal),
 }
 
 // A search as it came, and what became of its image.
@@ -253,13 +248,7 @@ impl Search {
         let len = self.pattern_len;
         let tail = self.tail;
         let tail_len = self.tail_len;
-        if buffer.len() < encode::image_length(len, tail_len) {
-            return Kept {
-                saving: Saving::Refused(Refusal::BufferTooShort),
-                search: self,
-            };
-        }
-        let written = encode::encode(
+        let saving = saving::save_parts(
             &pattern[..len],
             self.k,
             self.method,
@@ -268,7 +257,7 @@ impl Search {
             buffer,
         );
         Kept {
-            saving: Saving::Written(written),
+            saving,
             search: self,
         }
     }

@@ -13,7 +13,8 @@ use Rattle.search.specs.declared.Held.{Held}
 use Rattle.search.specs.declared.Kept.{Kept}
 use Rattle.state.specs.Stored.{tailLength}
 use Rattle.search.specs.Searches.{patternOf, tailOf, partsOfSearch, stored}
-use Rattle.search.specs.Calls.{handedTests, handedNumber, Saves, saveNumber, imageOf, savingNumber, Loads, loadNumber}
+use Rattle.saving.specs.Saved.{savingNumber}
+use Rattle.search.specs.Calls.{handedTests, handedNumber, Saves, saveNumber, imageOf, Loads, loadNumber}
 use Rattle.search.proofs.Handed.{handed-numbered, Sound, sound}
 use Rattle.series.specs.Series.{written}
 use Rattle.series.proofs.Tests.{both-none, parts-stored, load-parts, load-taken}

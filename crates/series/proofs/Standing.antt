@@ -26,7 +26,8 @@ use Rattle.whole.specs.Whole.{Whole, wholeNumber}
 use Rattle.state.specs.Stored.{lastOf, tailLength}
 use Rattle.search.specs.Searches.{patternOf, stored}
 use Rattle.search.specs.Searches as Searches
-use Rattle.search.specs.Calls.{Opened, openNumber, Feeds, feedNumber, reached, fedParts, SetsMethod, setMethodNumber, Saves, saveNumber, imageOf, Loads, loadNumber, savingNumber, savingLength}
+use Rattle.saving.specs.Saved.{savingNumber, savingLength}
+use Rattle.search.specs.Calls.{Opened, openNumber, Feeds, feedNumber, reached, fedParts, SetsMethod, setMethodNumber, Saves, saveNumber, imageOf, Loads, loadNumber}
 use Rattle.series.specs.History.{Ledger, Current, blank, holds, Copy, startWith, withChunk, withMethod, changed, keep, broughtBack, report}
 use Rattle.series.specs.Series.{KeptAs, latest, older, written, Reports, Agrees}
 use Rattle.series.proofs.Reports.{positions-append, report-by-tail, tail-after}

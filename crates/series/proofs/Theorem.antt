@@ -11,7 +11,8 @@ use Rattle.search.specs.declared.Fed.{Fed}
 use Rattle.search.specs.declared.Kept.{Kept}
 use Rattle.whole.specs.Answers.{answerNumber}
 use Rattle.whole.specs.Whole.{Whole}
-use Rattle.search.specs.Calls.{Opened, Feeds, SetsMethod, Saves, Loads, savingNumber}
+use Rattle.saving.specs.Saved.{savingNumber}
+use Rattle.search.specs.Calls.{Opened, Feeds, SetsMethod, Saves, Loads}
 use Rattle.series.specs.History.{History, verdict, Event, opened, fed, methodSet, saved, loaded, searched, after, history}
 use Rattle.series.specs.Series.{KeptAs, written, Run, fresh, opens, feeds, sets, saves, loads, wholes, AfterCall, Right}
 use Rattle.series.proofs.Standing.{Standing, Copies, none, sound-of, agrees, open-accepted, open-refused, feed-accepted, feed-refused, feed-reports, feed-while-blank, set-accepted, set-refused, set-while-blank, save-standing, save-copies, save-while-blank, load-accepted, load-number, load-refused}

@@ -16,7 +16,8 @@ use Rattle.search.specs.declared.Kept.{Kept}
 use Rattle.whole.specs.Answers.{answerNumber, answerFound, answerLooks}
 use Rattle.whole.specs.Whole.{Whole}
 use Rattle.state.specs.Stored.{lastOf, tailLength}
-use Rattle.search.specs.Calls.{Opened, Feeds, SetsMethod, Saves, Loads, savingNumber, savingLength}
+use Rattle.saving.specs.Saved.{savingNumber, savingLength}
+use Rattle.search.specs.Calls.{Opened, Feeds, SetsMethod, Saves, Loads}
 use Rattle.series.specs.History.{Ledger, blank, holds, Copy, History, verdict, Event, opened, fed, methodSet, saved, loaded, searched, report, history}
 
 -- ---- a series of calls

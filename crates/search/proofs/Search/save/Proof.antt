@@ -1,14 +1,13 @@
 -- `search::Search::save` meets its contract.
 use mathlib.Core.Path.{_≡_, sym, ap, _∙_}
-use Prim.Native.Nat.{_+_}
 use native.Mathlib.Omega.{arith}
 use lib.ListN.{length}
 use Rattle.admit.specs.Numbers.{admissionNumber}
 use Rattle.search.specs.declared.Search.{Search}
 use Rattle.search.specs.Searches.{patternOf, tailOf}
-use Rattle.search.specs.Calls.{handedNumber, imageOf}
+use Rattle.search.specs.Calls.{handedNumber}
 use Rattle.search.proofs.Handed.{Sound, sound, pattern-length, tail-fits, tail-length}
-use Rattle.search.proofs.Images.{image-length, saved-refused-early, saved-short, saved-written}
+use Rattle.search.proofs.Images.{saved-refused, saved-parts}
 use borrow.Author.Needs.{needs}
 use Rattle.search.proofs.Search.save.Statement.{statement}
 use Rattle.search.proofs.Search.save.Tie as tie
@@ -34,15 +33,12 @@ known s =
     let long = lengths (start-of s) in
     record { holds = sound (start-of s .args .self) (right s); pattern-long = long .0; tail-long = long .1 }
 
--- how long the pattern, the tail and the image are
+-- how long the pattern and the tail are
 pattern-said : {held : Search} → Known held → length (patternOf held) ≡ held .«pattern_len»
 pattern-said k = pattern-length (k .holds) (k .pattern-long)
 
 tail-said : {held : Search} → Known held → length (tailOf held) ≡ held .«tail_len»
 tail-said k = tail-length (k .holds) (k .tail-long)
-
-image-said : {held : Search} → Known held → length (imageOf held) ≡ 13 + 6 + held .«pattern_len» + held .«tail_len»
-image-said k = image-length (k .holds) (k .pattern-long) (k .tail-long)
 
 checked-requires : tie.Need-checked-requires
 checked-requires c κs = search needs
@@ -53,55 +49,37 @@ enum-known-admission c = search needs
 returns : tie.Need-returns
 returns c =
     let args = c .before .before .before .before .before .args in
-    saved-refused-early (args .self) (args .buffer .now) _
+    saved-refused (args .self) (args .buffer .now) _
     (ap admissionNumber (sym (c .before .admission .given .1)) ∙ c .before .before .before .checked .ensures)
 
 enum-told : tie.Need-enum-told
 enum-told c = search needs
 
-image-length-requires : tie.Need-image-length-requires
-image-length-requires c κs =
-    let k = known (c .before .before) in
-    (k .holds .short, omega (arith, tail-fits (k .holds)))
-
-returns-2 : tie.Need-returns-2
-returns-2 c =
-    let told : tie.After-enum-told = c .before .before .before .before in
-    let args = start-of told .args in
-    saved-short (args .self) (args .buffer .now) (right told) (omega (arith, c .if1 .taken, c .before .image-length .ensures, image-said (known told)))
-
 array-share-prefix-pattern : tie.Need-array-share-prefix-pattern
-array-share-prefix-pattern c = let k = known (c .before .before .before .before) in omega (arith, k .holds .short, k .pattern-long)
+array-share-prefix-pattern c = let k = known (c .before .before) in omega (arith, k .holds .short, k .pattern-long)
 
-slice-aggregate-encode : tie.Need-slice-aggregate-encode
-slice-aggregate-encode c = sym (pattern-said (known (c .before .before .before .before .before)))
+slice-aggregate-save-parts : tie.Need-slice-aggregate-save-parts
+slice-aggregate-save-parts c = sym (pattern-said (known (c .before .before .before)))
 
 array-share-prefix-tail : tie.Need-array-share-prefix-tail
-array-share-prefix-tail c =
+array-share-prefix-tail c = let k = known (c .before .before .before) in omega (arith, tail-fits (k .holds), k .tail-long)
+
+slice-aggregate-save-parts-2 : tie.Need-slice-aggregate-save-parts-2
+slice-aggregate-save-parts-2 c = sym (tail-said (known (c .before .before .before .before)))
+
+save-parts-requires : tie.Need-save-parts-requires
+save-parts-requires c κs =
     let k = known (c .before .before .before .before .before) in
-    omega (arith, tail-fits (k .holds), k .tail-long)
-
-slice-aggregate-encode-2 : tie.Need-slice-aggregate-encode-2
-slice-aggregate-encode-2 c = sym (tail-said (known (c .before .before .before .before .before .before)))
-
-encode-requires : tie.Need-encode-requires
-encode-requires c κs =
-    let k = known (c .before .before .before .before .before .before .before) in (
-      omega (arith, pattern-said k, k .holds .short),
-      omega (arith, tail-said k, tail-fits (k .holds)),
-      omega (arith, c .before .before .before .if1 .left, c .before .before .before .before .image-length .ensures, pattern-said k, tail-said k),
-    )
+    (omega (arith, pattern-said k, k .holds .short), omega (arith, tail-said k, tail-fits (k .holds)))
 
 same-length : tie.Need-same-length
 same-length c = search needs
 
-returns-3 : tie.Need-returns-3
-returns-3 c =
-    let told : tie.After-enum-told = c .before .before .before .before .before .before .before .before .before .before in
+returns-2 : tie.Need-returns-2
+returns-2 c =
+    let told : tie.After-enum-told = c .before .before .before .before .before .before .before .before in
     let args = start-of told .args in
-    saved-written (args .self) (args .buffer .now) (right told)
-    (omega (arith, c .before .before .before .before .before .before .if1 .left, c .before .before .before .before .before .before .before .image-length .ensures, image-said (known told)))
-    (c .before .before .encode .last .1 .1 .1 .1 .1 .0) (c .before .before .encode .result) (c .before .before .encode .ensures)
+    saved-parts (args .self) (args .buffer .now) (right told) _ (c .before .before .save-parts .result) (c .before .before .save-parts .ensures)
 
 pub save-spec : {M : Type 1} → statement M
 save-spec =
@@ -111,12 +89,10 @@ save-spec =
     enum-known-admission
     returns
     enum-told
-    image-length-requires
-    returns-2
     array-share-prefix-pattern
-    slice-aggregate-encode
+    slice-aggregate-save-parts
     array-share-prefix-tail
-    slice-aggregate-encode-2
-    encode-requires
+    slice-aggregate-save-parts-2
+    save-parts-requires
     same-length
-    returns-3)
+    returns-2)
