@@ -1,4 +1,1 @@
-pub mod Fillings
-pub mod Digests
-pub mod Reading
-pub mod Outcomes
+pub mod Searches

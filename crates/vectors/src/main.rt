@@ -4,24 +4,21 @@ ghost use mathlib.Core.Path.{_≡_};
 ghost use Prim.Native.Nat.{_+_, _^_, _≤_, _<_};
 ghost use lib.ListN.{length};
 
-mod cases;
-mod digests;
-mod fillings;
-mod outcomes;
-mod printing;
-mod reading;
+mod answers;
+mod calls;
+mod searches;
 
+use calls::make_call;
 use cases::HAND;
-use cases::make_call;
 use cases::read_case;
 use fillings::fill_list;
 use libc::STDIN_FILENO;
 use outcomes::Outcome;
 use outcomes::agree;
+use outcomes::print_difference;
+use outcomes::print_malformed;
+use outcomes::print_tally;
 use outcomes::read_outcome;
-use printing::print_difference;
-use printing::print_malformed;
-use printing::print_tally;
 use search::Search;
 
 // The longest stream; what follows isn't read. The longest text and the longest list of a case.

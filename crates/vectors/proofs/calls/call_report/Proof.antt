@@ -1,0 +1,41 @@
+-- `vectors::calls::call_report` is safe: the output lies within its buffer.
+use mathlib.Core.Path.{sym}
+use Prim.Native.Nat.{_≤_}
+use lib.ListN.{length}
+use lib.Seq.{length-take-le}
+use Rattle.report.proofs.Room.{output-inside}
+use borrow.Author.Needs.{needs}
+use Rattle.vectors.proofs.calls.call_report.Statement.{statement}
+use Rattle.vectors.proofs.calls.call_report.Tie as tie
+
+inside : (c : tie.After-report) → c .report .result ≤ length (c .report .last .1 .0)
+inside c = output-inside (c .report .ensures) (search needs)
+
+report-room-requires : tie.Need-report-room-requires
+report-room-requires c κs = search needs
+
+report-requires : tie.Need-report-requires
+report-requires c κs = search needs
+
+array-share-prefix-output : tie.Need-array-share-prefix-output
+array-share-prefix-output c = inside c
+
+slice-aggregate-digest-bytes : tie.Need-slice-aggregate-digest-bytes
+slice-aggregate-digest-bytes c = sym (length-take-le (c .before .report .result) (c .before .report .last .1 .0) (inside (c .before)))
+
+digest-bytes-requires : tie.Need-digest-bytes-requires
+digest-bytes-requires c κs = search needs
+
+returns : tie.Need-returns
+returns c = search needs
+
+pub call-report-spec : {M : Type 1} → statement M
+call-report-spec =
+    tie.close
+    (tie.spec
+    report-room-requires
+    report-requires
+    array-share-prefix-output
+    slice-aggregate-digest-bytes
+    digest-bytes-requires
+    returns)

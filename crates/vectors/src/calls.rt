@@ -1,0 +1,188 @@
+// The calls that the cases ask for.
+ghost use mathlib.Core.Path.{_≡_};
+ghost use Prim.Native.Nat.{_≤_, _<_};
+ghost use lib.ListN.{length};
+use crate::answers::admitted;
+use crate::answers::answered;
+use crate::answers::saved;
+use crate::searches::digest_search;
+use crate::searches::search_of;
+use cases::Case;
+use cases::HAND;
+use digests::digest_bytes;
+use digests::digest_list;
+use fillings::fill_buffer;
+use outcomes::Outcome;
+use search::Fed;
+use search::Held;
+use search::Kept;
+use search::Search;
+
+// The longest buffer of a save.
+const LONGEST_IMAGE: usize = 512;
+
+// The room that mixlist's function asks for.
+const REPORT_ROOM: usize = 98560;
+
+// What a call came to, and the search that it left.
+pub struct Called {
+    pub search: Search,
+    pub got: Outcome,
+}
+
+// What open, set method and load gave.
+fn held(given: Held) -> Called {
+    let admission = given.admission;
+    let search = given.search;
+    Called {
+        search,
+        got: admitted(admission, digest_search(0, search)),
+    }
+}
+
+// What feed gave, after a list with this digest.
+fn fed_on(fed: Fed, digest: u64) -> Called
+    requires { ⌜ digest < 72057594037927931 ⌝ }
+{
+    let answer = fed.answer;
+    let search = fed.search;
+    Called {
+        search,
+        got: answered(answer, digest_search(digest, search)),
+    }
+}
+
+fn call_feed(before: Search, piece: &[u8], list: &mut [u32]) -> Called {
+    let fed = before.feed(piece, list);
+    fed_on(fed, digest_list(0, list))
+}
+
+// What save gave, after a buffer with this digest.
+fn kept_on(kept: Kept, digest: u64) -> Called
+    requires { ⌜ digest < 72057594037927931 ⌝ }
+{
+    let saving = kept.saving;
+    let search = kept.search;
+    Called {
+        search,
+        got: saved(saving, digest_search(digest, search)),
+    }
+}
+
+// No case asks for more: `shape_of` says so.
+fn image_room(places: usize) -> usize
+    ensures { λ r. ⌜ r ≤ 512 ⌝ }
+{
+    if places < LONGEST_IMAGE {
+        places
+    } else {
+        LONGEST_IMAGE
+    }
+}
+
+// Saves into a buffer of so many bytes.
+fn call_save(before: Search, places: usize) -> Called {
+    let mut bytes = [0u8; LONGEST_IMAGE];
+    let room = image_room(places);
+    fill_buffer(&mut bytes, room);
+    save_into(before, &mut bytes[..room])
+}
+
+fn save_into(before: Search, buffer: &mut [u8]) -> Called {
+    let kept = before.save(buffer);
+    kept_on(kept, digest_bytes(0, buffer))
+}
+
+fn call_whole(pattern: &[u8], k: u8, method: u8, text: &[u8], list: &mut [u32]) -> Outcome {
+    let answer = search::whole(pattern, k, method, text, list);
+    answered(answer, digest_list(0, list))
+}
+
+// A buffer for every output of mixlist's function.
+fn report_room() -> [u8; REPORT_ROOM]
+    ensures { λ r. ⌜ 98560 ≡ length r ⌝ }
+{
+    [0; REPORT_ROOM]
+}
+
+// The length of the output, and the digest of that.
+fn call_report(input: &[u8]) -> Outcome {
+    let mut output = report_room();
+    let written = report::report(input, &mut output);
+    Outcome {
+        number: 0,
+        a: written as u64,
+        b: 0,
+        digest: digest_bytes(0, &output[..written]),
+    }
+}
+
+// A number that a call without refusals gives.
+fn counted(a: usize) -> Outcome {
+    Outcome {
+        number: 0,
+        a: a as u64,
+        b: 0,
+        digest: 0,
+    }
+}
+
+// How many bits the fields of methods 2, 3 and 4 need. No longer pattern and no larger k gets so far.
+fn width_of(pattern: &[u8], k: u8, method: u8) -> usize {
+    if 64 < pattern.len() {
+        return 0;
+    }
+    if 64 < k {
+        return 0;
+    }
+    widths::field_bits(pattern, k as usize, method)
+}
+
+// Whether method 5 takes a candidate for a match without verifying it.
+fn exact(pattern: &[u8]) -> usize {
+    let table = heap::heap_table(pattern);
+    if table.exact { 1 } else { 0 }
+}
+
+// The calls that no search is handed to.
+fn call_without(
+    op: u8,
+    pattern: &[u8],
+    k: u8,
+    method: u8,
+    text: &[u8],
+    list: &mut [u32],
+) -> Outcome {
+    match op {
+        1 => call_whole(pattern, k, method, text, list),
+        8 => call_report(text),
+        9 => counted(width_of(pattern, k, method)),
+        _ => counted(exact(pattern)),
+    }
+}
+
+// Makes the call of a case. The list is filled already.
+pub fn make_call(
+    case: Case,
+    search: Search,
+    pattern: &[u8],
+    text: &[u8],
+    list: &mut [u32],
+) -> Called {
+    let op = case.op;
+    match op {
+        2 => held(Search::open(pattern, case.k, case.method)),
+        3 => call_feed(search, text, list),
+        4 => held(search.set_method(case.method)),
+        5 => call_save(search, case.places),
+        6 => held(Search::load(text)),
+        HAND => Called {
+            search: search_of(text),
+            got: counted(0),
+        },
+        _ => Called {
+            search,
+            got: call_without(op, pattern, case.k, case.method, text, list),
+        },
+    }
+}
