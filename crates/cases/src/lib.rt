@@ -31,6 +31,17 @@ pub struct Case {
     pub next: usize,
 }
 
+// The fields of a search that a case fills in by hand: any numbers, and all the bytes that a search stores.
+pub struct Fields {
+    pub pattern: [u8; 64],
+    pub pattern_len: usize,
+    pub k: u8,
+    pub method: u8,
+    pub total: u32,
+    pub tail: [u8; 63],
+    pub tail_len: usize,
+}
+
 // The arguments of each kind. Patterns, texts and lists may be longer than the calls take, so that they can be refused.
 fn shape_of(op: u8) -> Shape
     ensures { λ r. ⌜ Readable r ⌝ }
@@ -96,4 +107,26 @@ pub fn read_case(stream: &[u8], at: usize, pattern: &mut [u8], text: &mut [u8]) 
         return read_arguments(stream, NOWHERE, op, pattern, text);
     }
     read_arguments(stream, number.next, op, pattern, text)
+}
+
+// The fields that the text of such a case holds.
+pub fn read_fields(bytes: &[u8]) -> Fields {
+    let mut pattern = [0u8; 64];
+    let mut tail = [0u8; 63];
+    spell(bytes, 0, 64, false, 0, 64, &mut pattern);
+    spell(bytes, 78, 63, false, 0, 63, &mut tail);
+    let pattern_len = read_number(bytes, 64, 8, 18446744073709551615);
+    let k = read_number(bytes, 72, 1, 255);
+    let method = read_number(bytes, 73, 1, 255);
+    let total = read_number(bytes, 74, 4, 4294967295);
+    let tail_len = read_number(bytes, 141, 8, 18446744073709551615);
+    Fields {
+        pattern,
+        pattern_len: pattern_len.value as usize,
+        k: k.value as u8,
+        method: method.value as u8,
+        total: total.value as u32,
+        tail,
+        tail_len: tail_len.value as usize,
+    }
 }

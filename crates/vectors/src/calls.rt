@@ -9,6 +9,7 @@ use crate::searches::digest_search;
 use crate::searches::search_of;
 use cases::Case;
 use cases::HAND;
+use cases::read_fields;
 use digests::digest_bytes;
 use digests::digest_list;
 use fillings::fill_buffer;
@@ -177,7 +178,7 @@ pub fn make_call(
         5 => call_save(search, case.places),
         6 => held(Search::load(text)),
         HAND => Called {
-            search: search_of(text),
+            search: search_of(read_fields(text)),
             got: counted(0),
         },
         _ => Called {
