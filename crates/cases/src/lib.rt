@@ -1,4 +1,4 @@
-// The cases of the stream: their kinds and arguments (tools/vectors_stream.py).
+// The stored cases: their kinds and arguments, read from the stream (tools/vectors_stream.py).
 ghost use Prim.Native.Nat.{_≤_};
 ghost use lib.ListN.{length};
 ghost use Rattle.io.specs.Counts.{Counts};

@@ -1,4 +1,4 @@
-// Digests of what a call leaves behind. Each function goes on from the digest of the bytes before.
+// Digests of what the call of a stored case leaves behind (tools/vectors_stream.py). Each function goes on from the digest of the bytes before.
 ghost use mathlib.Core.Path.{_≡_};
 ghost use Prim.Native.Nat.{_<_};
 ghost use Rattle.image.specs.Image.{lowFirst};

@@ -1,4 +1,5 @@
-// What the first places of a lent list or buffer hold before a call, and the texts that a few letters stand for.
+// What the first places of a lent list or buffer hold before the call of a stored case, and the texts that a few letters stand for
+// (tools/vectors_stream.py).
 ghost use mathlib.Core.Path.{_≡_};
 ghost use Prim.Native.Nat.{_≤_};
 ghost use lib.ListN.{length};

@@ -1,4 +1,4 @@
-// Outcomes of calls: read from the stream, compared, and the lines that are printed of them (tools/vectors_stream.py).
+// Outcomes of stored cases: read from the stream, compared, and the lines that are printed of them (tools/vectors_stream.py).
 ghost use mathlib.Core.Path.{_≡_};
 ghost use Prim.Native.Nat.{_+_, _≤_, _<_};
 ghost use lib.ListN.{length};

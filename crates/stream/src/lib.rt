@@ -1,5 +1,5 @@
-// Numbers and texts of the stream of stored cases (tools/vectors_stream.py). An item that can't be read counts as 0 or as empty and leads to a place past the stream's end, and so does
-// every item after it: whoever reads a case asks once, at its end, whether all of it could be read.
+// Numbers and texts of the stream of stored cases (tools/vectors_stream.py). An item that can't be read counts as 0 or as empty and leads to a
+// place past the stream's end, and so does every item after it: whoever reads a case asks once, at its end, whether all of it could be read.
 ghost use mathlib.Core.Path.{_≡_};
 ghost use Prim.Native.Nat.{_≤_};
 ghost use lib.ListN.{length};
@@ -12,10 +12,10 @@ use fillings::put_letters;
 pub const NOWHERE: usize = 18446744073709551615;
 
 // A part of the stream, and the place after it.
-pub struct Part {
-    pub start: usize,
-    pub end: usize,
-    pub next: usize,
+struct Part {
+    start: usize,
+    end: usize,
+    next: usize,
 }
 
 pub struct Number {
@@ -30,7 +30,7 @@ pub struct Text {
 }
 
 // The next `count` bytes, or none.
-pub fn take_part(stream: &[u8], at: usize, count: usize) -> Part
+fn take_part(stream: &[u8], at: usize, count: usize) -> Part
     ensures { λ r. ⌜ Within (length (now (stream .entry))) count (r .start) (r .end) ⌝ }
 {
     if at <= stream.len() {
