@@ -2,7 +2,7 @@
 ghost use mathlib.Core.Path.{_≡_};
 ghost use Rattle.admit.specs.Numbers.{admissionNumber};
 ghost use Rattle.whole.specs.Answers.{answerNumber, answerFound, answerLooks};
-ghost use Rattle.search.specs.Calls.{savingNumber, savingLength};
+ghost use Rattle.saving.specs.Saved.{savingNumber, savingLength};
 ghost use Rattle.outcomes.specs.Outcomes.{outcomeOf};
 use admit::Admission;
 use outcomes::Outcome;
