@@ -1,3 +1,2 @@
--- Words and numbers as bytes, and how they stand in a lent buffer.
+-- Words and numbers as bytes.
 pub mod Decimal
-pub mod Buffer

@@ -3,23 +3,9 @@
 ghost use mathlib.Core.List.{_++_};
 ghost use Prim.Native.Nat.{_+_, _≤_};
 ghost use lib.ListN.{length};
+ghost use Rattle.copying.specs.Written.{Written};
 ghost use Rattle.decimals.specs.Decimal.{decimal, numberLine};
-ghost use Rattle.decimals.specs.Buffer.{Written};
-
-// Copies all of source into the buffer.
-pub fn write_bytes(source: &[u8], buffer: &mut [u8], at: usize) -> usize
-    requires { ⌜ at + length (now source) ≤ length (now buffer) ⌝ }
-    ensures { λ r. ⌜ Written (now (buffer .entry)) at (now (source .entry)) (now (buffer .exit)) r ⌝ }
-{
-    let mut next = at;
-    let mut i = 0;
-    while i < source.len() {
-        buffer[next] = source[i];
-        next += 1;
-        i += 1;
-    }
-    next
-}
+use copying::copy_in;
 
 // Writes n in base ten. The digits in front of the last one are those of n / 10.
 fn write_decimal(n: usize, buffer: &mut [u8], at: usize) -> usize
@@ -40,7 +26,7 @@ pub fn write_labeled(word: &[u8], n: usize, buffer: &mut [u8], at: usize) -> usi
     requires { ⌜ at + length (now word ++ decimal n) ≤ length (now buffer) ⌝ }
     ensures { λ r. ⌜ Written (now (buffer .entry)) at (now (word .entry) ++ decimal n) (now (buffer .exit)) r ⌝ }
 {
-    let word_end = write_bytes(word, buffer, at);
+    let word_end = copy_in(word, buffer, at);
     write_decimal(n, buffer, word_end)
 }
 

@@ -5,33 +5,25 @@ use Prim.Native.Nat.{ℕ, _+_, _≤_, _<_}
 use native.Mathlib.Nat.{zero-add}
 use native.Mathlib.Numerals.{add-one}
 use native.Mathlib.Omega.{arith}
-use lib.ListN.{length, getD, take, drop, length-append, drop-of-length-le}
+use lib.ListN.{length, getD, drop, length-append, drop-of-length-le}
 use lib.Seq.{drop-cons}
 use Rattle.listing.specs.Placed.{placed}
-use Rattle.listing.proofs.Placing.{placed-nil, take-placed, placed-placed}
+use Rattle.listing.proofs.Placing.{placed-nil, placed-placed}
 use Rattle.image.specs.Image.{Parts, body, each, entries, image, IsOrder, saveOrder}
-use Rattle.copying.specs.Put.{Put}
-use Rattle.copying.proofs.Putting.{put-length, put-put}
+use Rattle.copying.specs.Written.{Written}
+use Rattle.copying.proofs.Writing.{written-length, written-then}
 use Rattle.encode.specs.Writing.{Encoded}
 
--- the first byte, the entries and the bodies, put one after the other, are the image
-pub put-image : {f : ℕ → List ℕ} {parts : Parts} {before after-first after-entries after : List ℕ} {at start next : ℕ} → f ≡ body parts
-    → Put (4 ∷ []) before after-first 0 at → Put (entries f saveOrder) after-first after-entries at start
-    → Put (each f saveOrder) after-entries after start next → 1 ≤ length before → at + length (entries f saveOrder) ≤ length after-first
+-- the first byte, the entries and the bodies, written one after the other, are the image
+pub written-image : {f : ℕ → List ℕ} {parts : Parts} {before after-first after-entries after : List ℕ} {at start next : ℕ} → f ≡ body parts
+    → Written before 0 (4 ∷ []) after-first at → Written after-first at (entries f saveOrder) after-entries start
+    → Written after-entries start (each f saveOrder) after next → 1 ≤ length before → at + length (entries f saveOrder) ≤ length after-first
     → Encoded parts before after next
 unfolding image
-put-image {f} {parts} {before} {after-first} {after-entries} {after} {at} {start} {next} same first second third room room-entries =
-    let whole : Put (4 ∷ (entries f saveOrder ++ each f saveOrder)) before after 0 next = put-put first (put-put second third room-entries) room in
-    let written = subst (λ (g : ℕ → List ℕ). Put (4 ∷ (entries g saveOrder ++ each g saveOrder)) before after 0 next) same whole in
-    record { filled = written .filled; length-given = written .place-after ∙ zero-add _ }
-
--- the first bytes of a buffer that an image was put into are the image
-pub encoded-first : (parts : Parts) (before after : List ℕ) (len : ℕ) → Encoded parts before after len
-    → length (image saveOrder parts) ≤ length before → take len after ≡ image saveOrder parts
-encoded-first parts before after len encoded room =
-    let written = image saveOrder parts in
-    let all : len ≡ 0 + length written = omega (arith, encoded .length-given) in
-    ap₂ (λ (n : ℕ) (l : List ℕ). take n l) all (encoded .filled) ∙ take-placed before 0 written (omega arith)
+written-image {f} {parts} {before} {after-first} {after-entries} {after} {at} {start} {next} same first second third room room-entries =
+    let whole : Written before 0 (4 ∷ (entries f saveOrder ++ each f saveOrder)) after next = written-then first (written-then second third room-entries) room in
+    let written = subst (λ (g : ℕ → List ℕ). Written before 0 (4 ∷ (entries g saveOrder ++ each g saveOrder)) after next) same whole in
+    record { filled = written .filled; length-given = written .place ∙ zero-add _ }
 
 -- ---- a loop that writes what a function gives for each kind of an order
 
@@ -63,24 +55,24 @@ module _ {f : ℕ → List ℕ} {order before : List ℕ} {start i : ℕ} {buffe
     left-room = omega (arith, left .all, left .kept, lengths)
 
     -- and less is left once they are written
-    pub left-next : {after : List ℕ} {past : ℕ} → Put bytes buffer after at past → Left f order before start (i + 1) after past
-    left-next put =
+    pub left-next : {after : List ℕ} {past : ℕ} → Written buffer at bytes after past → Left f order before start (i + 1) after past
+    left-next w =
         record {
-          all = omega (arith, left .all, put .place-after, lengths);
-          kept = put-length put left-room ∙ left .kept;
-          rest = ap₂ (λ (l : List ℕ) (n : ℕ). placed l n (each f (drop (i + 1) order))) (put .filled) (put .place-after)
+          all = omega (arith, left .all, w .place, lengths);
+          kept = written-length w left-room ∙ left .kept;
+          rest = ap₂ (λ (l : List ℕ) (n : ℕ). placed l n (each f (drop (i + 1) order))) (w .filled) (w .place)
               ∙ placed-placed buffer at bytes left-room (each f (drop (i + 1) order))
               ∙ ap (placed buffer at) (sym next)
               ∙ left .rest;
         }
 
   -- at the end all is written
-  pub left-last : 4 ≤ i → Put (each f order) before buffer start at
+  pub left-last : 4 ≤ i → Written before start (each f order) buffer at
   unfolding each
   left-last most =
       let end : length order ≤ i = omega (arith, o .four) in
       let none : each f (drop i order) ≡ [] = ap (each f) (drop-of-length-le order end) in
       record {
         filled = sym (placed-nil buffer at) ∙ ap (placed buffer at) (sym none) ∙ left .rest;
-        place-after = omega (arith, left .all, ap length none);
+        place = omega (arith, left .all, ap length none);
       }

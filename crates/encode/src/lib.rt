@@ -4,7 +4,7 @@ ghost use mathlib.Core.Path.{_≡_};
 ghost use Prim.Native.Nat.{_+_, _≤_};
 ghost use lib.ListN.{length};
 ghost use Rattle.image.specs.Image.{partsWith, entry, each, entries, saveOrder};
-ghost use Rattle.copying.specs.Put.{Put};
+ghost use Rattle.copying.specs.Written.{Written};
 ghost use Rattle.bodies.specs.Bodies.{bodyFrom};
 ghost use Rattle.encode.specs.Writing.{Encoded};
 use bodies::body_to_save;
@@ -18,7 +18,7 @@ const ORDER: [u8; 4] = [1, 2, 3, 4];
 // An entry, put into the buffer from a place on.
 fn put_entry(kind: u8, len: usize, buffer: &mut [u8], at: usize) -> usize
     requires { ⌜ at + 3 ≤ length (now buffer) ⌝ }
-    ensures { λ r. ⌜ Put (entry kind len) (now (buffer .entry)) (now (buffer .exit)) at r ⌝ }
+    ensures { λ r. ⌜ Written (now (buffer .entry)) at (entry kind len) (now (buffer .exit)) r ⌝ }
 {
     let bytes = [kind, (len % 256) as u8, (len / 256 % 256) as u8];
     copy_in(&bytes, buffer, at)
@@ -33,7 +33,7 @@ fn put_entries<'a>(
     start: usize,
 ) -> usize
     requires { ⌜ (length (now numbers) ≡ 6) × (start + length (entries (bodyFrom (now pattern) (now numbers) (now tail)) saveOrder) ≤ length (now buffer)) ⌝ }
-    ensures { λ r. ⌜ Put (entries (bodyFrom (now (pattern .entry)) (now (numbers .entry)) (now (tail .entry))) saveOrder) (now (buffer .entry)) (now (buffer .exit)) start r ⌝ }
+    ensures { λ r. ⌜ Written (now (buffer .entry)) start (entries (bodyFrom (now (pattern .entry)) (now (numbers .entry)) (now (tail .entry))) saveOrder) (now (buffer .exit)) r ⌝ }
 {
     let mut at = start;
     let mut i = 0;
@@ -55,7 +55,7 @@ fn put_bodies<'a>(
     start: usize,
 ) -> usize
     requires { ⌜ (length (now numbers) ≡ 6) × (start + length (each (bodyFrom (now pattern) (now numbers) (now tail)) saveOrder) ≤ length (now buffer)) ⌝ }
-    ensures { λ r. ⌜ Put (each (bodyFrom (now (pattern .entry)) (now (numbers .entry)) (now (tail .entry))) saveOrder) (now (buffer .entry)) (now (buffer .exit)) start r ⌝ }
+    ensures { λ r. ⌜ Written (now (buffer .entry)) start (each (bodyFrom (now (pattern .entry)) (now (numbers .entry)) (now (tail .entry))) saveOrder) (now (buffer .exit)) r ⌝ }
 {
     let mut at = start;
     let mut i = 0;

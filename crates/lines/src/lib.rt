@@ -2,7 +2,7 @@
 // the place `at` on; each answers with the place after what it wrote.
 ghost use Prim.Native.Nat.{_+_, _≤_};
 ghost use lib.ListN.{length, take};
-ghost use Rattle.decimals.specs.Buffer.{Written};
+ghost use Rattle.copying.specs.Written.{Written};
 ghost use Rattle.lines.specs.Lines.{header, positionLines, counts, refusalText, outputText};
 
 // Writes the line of a refusal.
@@ -18,8 +18,8 @@ fn write_header(pattern: &[u8], method: u8, k: u8, buffer: &mut [u8], at: usize)
     requires { ⌜ at + length (header (now pattern) k method) ≤ length (now buffer) ⌝ }
     ensures { λ r. ⌜ Written (now (buffer .entry)) at (header (now (pattern .entry)) k method) (now (buffer .exit)) r ⌝ }
 {
-    let pattern_at = decimals::write_bytes(b"mix ", buffer, at);
-    let pattern_end = decimals::write_bytes(pattern, buffer, pattern_at);
+    let pattern_at = copying::copy_in(b"mix ", buffer, at);
+    let pattern_end = copying::copy_in(pattern, buffer, pattern_at);
     let method_end = decimals::write_labeled(b" method ", method as usize, buffer, pattern_end);
     decimals::write_labeled_line(b" k ", k as usize, buffer, method_end)
 }

@@ -13,7 +13,7 @@ use Rattle.jumbled.specs.Refusals.{Test, given, methodTests, patternTests, prog
 use Rattle.request.specs.Request.{methodOf, toleranceOf, patternOf, textOf, tooLong, badLine}
 use Rattle.request.specs.Parsing.{part}
 use Rattle.request.proofs.Answered.{Requested}
-use Rattle.decimals.specs.Buffer.{Written}
+use Rattle.copying.specs.Written.{Written}
 use Rattle.lines.specs.Lines.{outputText, refusalText}
 use Rattle.report.specs.Output.{requestRefusal, answerText, output, Reported}
 

@@ -1,7 +1,7 @@
 // What the program mixlist prints for its input, as a function on slices (document 01, "The program").
 ghost use Prim.Native.Nat.{_≤_};
 ghost use lib.ListN.{length};
-ghost use Rattle.decimals.specs.Buffer.{Written};
+ghost use Rattle.copying.specs.Written.{Written};
 ghost use Rattle.report.specs.Output.{answerText, Reported};
 use request::LONGEST_INPUT;
 use request::Parsed;

@@ -1,24 +1,22 @@
 -- `copying::copy_in` meets its contract: after i turns the first i bytes of the source stand in the buffer.
-use mathlib.Core.Path.{_≡_, refl, sym, ap, _∙_}
-use mathlib.Core.List.{List}
-use Prim.Native.Nat.{ℕ, _≤_, _+_, _-_}
+use Prim.Native.Nat.{_≤_, _+_, _-_}
+use native.Mathlib.Nat.{add-zero}
 use native.Mathlib.Omega.{arith}
-use lib.ListN.{length, getD, set, take, length-set}
+use lib.ListN.{length, take}
 use lib.Seq.{take-all}
-use Rattle.listing.specs.Placed.{placed}
-use Rattle.listing.proofs.Placing.{placed-nil}
-use Rattle.copying.proofs.Putting.{placed-byte}
+use Rattle.copying.specs.Written.{Written}
+use Rattle.copying.proofs.Writing.{written-none, written-length, copied-inside, copied-more}
 use Rattle.copying.proofs.copy_in.Statement.{statement}
 use Rattle.copying.proofs.copy_in.Tie as tie
 
 abbrev Inv-loop : tie.InvT-loop
-Inv-loop source buffer₀ at i₀ buffer i = (i ≤ length source) × (length buffer ≡ length buffer₀) × (buffer ≡ placed buffer₀ at (take i source))
+Inv-loop source buffer₀ at i₀ buffer i = (i ≤ length source) × Written buffer₀ at (take i source) buffer (at + i)
 
 abbrev μ-loop : tie.MeasureT-loop
 μ-loop source buffer₀ at i₀ buffer i = length source - i
 
 loop-holds : tie.Need-loop-holds Inv-loop μ-loop
-loop-holds c = (omega arith, refl, sym (placed-nil (c .args .buffer .now) (c .args .at)))
+loop-holds c = (omega arith, rw add-zero (written-none _ _))
 
 shared-slice-read-buffer : tie.Need-shared-slice-read-buffer Inv-loop μ-loop
 shared-slice-read-buffer c = omega arith
@@ -27,7 +25,9 @@ add-buffer : tie.Need-add-buffer Inv-loop μ-loop
 add-buffer c = omega arith
 
 slice-write-buffer : tie.Need-slice-write-buffer Inv-loop μ-loop
-slice-write-buffer c = omega arith
+slice-write-buffer c =
+    let turn = c .before .before in
+    copied-inside (turn .before .args .source .now) (turn .loop .i) (turn .loop .inv .1) (omega arith) (turn .before .pre)
 
 add-i : tie.Need-add-i Inv-loop μ-loop
 add-i c = omega arith
@@ -37,28 +37,25 @@ loop-less c = omega arith
 
 loop-again : tie.Need-loop-again Inv-loop μ-loop
 loop-again c =
-    let start = c .before .before .before in
-    let loop = c .before .before .loop in (
+    let turn = c .before .before in (
       omega arith,
-      length-set (loop .buffer) (start .args .at + loop .i) (getD (start .args .source .now) (loop .i) 0) ∙ loop .inv .1,
-      ap (λ (l : List ℕ). set l (start .args .at + loop .i) (getD (start .args .source .now) (loop .i) 0)) (loop .inv .2)
-          ∙ placed-byte (start .args .buffer .now) (start .args .at) (start .args .source .now) (loop .i) (omega arith) (omega arith),
+      copied-more (turn .before .args .source .now) (turn .loop .i) (turn .loop .inv .1) (omega arith) (turn .before .pre),
     )
+
+-- after the loop all of source has been copied
+whole : (c : tie.After-loop Inv-loop μ-loop)
+    → Written (c .before .before .args .buffer .now) (c .before .before .args .at) (c .before .before .args .source .now)
+    (c .before .loop .buffer) (c .before .before .args .at + c .before .loop .i)
+whole c = rw (take-all (c .before .loop .i) (c .before .before .args .source .now) (omega arith)) at (c .before .loop .inv .1)
 
 add-result : tie.Need-add-result Inv-loop μ-loop
 add-result c = omega arith
 
 same-length : tie.Need-same-length Inv-loop μ-loop
-same-length c = c .before .loop .inv .1
+same-length c = written-length (whole c) (c .before .before .pre)
 
 returns : tie.Need-returns Inv-loop μ-loop
-returns c =
-    let start = c .before .before in
-    let loop = c .before .loop in
-    record {
-      filled = loop .inv .2 ∙ ap (placed (start .args .buffer .now) (start .args .at)) (take-all (loop .i) (start .args .source .now) (omega arith));
-      place-after = omega arith;
-    }
+returns c = whole c
 
 pub copy-in-spec : {M : Type 1} → statement M
 copy-in-spec =

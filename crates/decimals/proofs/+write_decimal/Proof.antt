@@ -3,7 +3,7 @@ use Prim.Native.Nat.{ℕ, _+_, _/_, _<_}
 use native.Mathlib.Omega.{arith}
 use lib.ListN.{length, length-set}
 use Rattle.decimals.specs.Decimal.{decimal}
-use Rattle.decimals.proofs.Puts.{written-byte, written-length, written-inside, written-more}
+use Rattle.copying.proofs.Writing.{written-byte, written-length, written-inside, written-more}
 use Rattle.decimals.proofs.Decimals.{decimal-small, decimal-large, length-decimal-small, length-decimal-large}
 use borrow.Fn.Kinds.{In}
 use borrow.Fn.PlainCycle.{Measures, is, falls, and}

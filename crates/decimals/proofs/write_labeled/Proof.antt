@@ -2,12 +2,12 @@
 use borrow.Author.Needs.{needs}
 use denote.Ref.{now}
 use Rattle.decimals.specs.Decimal.{decimal}
-use Rattle.decimals.proofs.Puts.{first-fits, second-fits, written-then}
+use Rattle.copying.proofs.Writing.{first-fits, second-fits, written-then}
 use Rattle.decimals.proofs.write_labeled.Statement.{statement}
 use Rattle.decimals.proofs.write_labeled.Tie as tie
 
-write-bytes-requires : tie.Need-write-bytes-requires
-write-bytes-requires c κs =
+copy-in-requires : tie.Need-copy-in-requires
+copy-in-requires c κs =
     let start = c .before .before .before in
     first-fits (start .args .at) (start .args .word .now) (decimal (start .args .n)) (start .pre)
 
@@ -15,7 +15,7 @@ write-decimal-requires : tie.Need-write-decimal-requires
 write-decimal-requires c κs =
     let word = c .before .before .before in
     let start = word .before .before .before .before in
-    second-fits (decimal (start .args .n)) (word .write-bytes .ensures) (start .pre)
+    second-fits (decimal (start .args .n)) (word .copy-in .ensures) (start .pre)
 
 same-length : tie.Need-same-length
 same-length c = search needs
@@ -25,9 +25,9 @@ returns c =
     let number = c .before .before in
     let word = number .before .before .before .before in
     let start = word .before .before .before .before in
-    written-then (word .write-bytes .ensures) (number .write-decimal .ensures)
+    written-then (word .copy-in .ensures) (number .write-decimal .ensures)
     (first-fits (start .args .at) (start .args .word .now) (decimal (start .args .n)) (start .pre))
 
 pub write-labeled-spec : {M : Type 1} → statement M
 write-labeled-spec =
-    tie.close (tie.spec write-bytes-requires write-decimal-requires same-length returns)
+    tie.close (tie.spec copy-in-requires write-decimal-requires same-length returns)

@@ -5,7 +5,7 @@ use Prim.Native.Nat.{ℕ, _+_, _<_}
 use native.Mathlib.Omega.{arith}
 use lib.ListN.{length, length-append, length-set}
 use Rattle.decimals.specs.Decimal.{ascii, decimal, numberLine}
-use Rattle.decimals.proofs.Puts.{written-length, written-inside, written-more}
+use Rattle.copying.proofs.Writing.{written-length, written-inside, written-more}
 use Rattle.decimals.proofs.write_labeled_line.Statement.{statement}
 use Rattle.decimals.proofs.write_labeled_line.Tie as tie
 

@@ -1,4 +1,4 @@
--- `encode::encode` meets its contract: the first byte, the entries and the bodies, each put after the other.
+-- `encode::encode` meets its contract: the first byte, the entries and the bodies, each written after the other.
 use mathlib.Core.Path.{_≡_, ap, _∙_}
 use mathlib.Core.List.{List}
 use Prim.Native.Nat.{ℕ, _≤_}
@@ -8,9 +8,9 @@ use Rattle.image.specs.Image.{body, partsWith, each, saveOrder}
 use Rattle.bodies.specs.Bodies.{bodyFrom}
 use Rattle.image.proofs.Numbers.{length-lowFirst}
 use Rattle.image.proofs.Images.{length-entries, length-in-order, save-order}
-use Rattle.copying.proofs.Putting.{put-length}
+use Rattle.copying.proofs.Writing.{written-length}
 use Rattle.bodies.proofs.Bodies.{body-written}
-use Rattle.encode.proofs.Writing.{put-image}
+use Rattle.encode.proofs.Writing.{written-image}
 use borrow.Author.Needs.{needs}
 use Rattle.encode.proofs.encode.Statement.{statement}
 use Rattle.encode.proofs.encode.Tie as tie
@@ -47,7 +47,7 @@ put-entries-requires c κs =
     let f = bodyFrom (args .pattern .now) numbers (args .tail .now) in
     let first = c .before .before .before .before .copy-in .ensures in (
       six (c .before .before .before .before .before .before .before),
-      omega (arith, length-entries f saveOrder, save-order .four, first .place-after, put-length first (omega arith)),
+      omega (arith, length-entries f saveOrder, save-order .four, first .place, written-length first (omega arith)),
     )
 
 slice-aggregate-put-bodies : tie.Need-slice-aggregate-put-bodies
@@ -68,10 +68,10 @@ put-bodies-requires c κs =
         save-order .four,
         ap (λ (g : ℕ → List ℕ). length (each g saveOrder)) (bodies-written (c .before .before .before .before .before .before .before .before .before .before .before .before)),
         length-in-order (partsWith (args .pattern .now) (args .k) (args .method) (args .total) (args .tail .now)) save-order,
-        first .place-after,
-        second .place-after,
-        put-length first (omega arith),
-        put-length second room,
+        first .place,
+        second .place,
+        written-length first (omega arith),
+        written-length second room,
       ),
     )
 
@@ -85,7 +85,7 @@ returns c =
     let first = second .before .before .before .before .before in
     let start = first .before .before .before .before .before .before .before in
     let room : 1 ≤ length (start .args .buffer .now) = omega (arith, start .pre) in
-    put-image (bodies-written (first .before .before .before)) (first .copy-in .ensures) (second .put-entries .ensures) (third .put-bodies .ensures) room
+    written-image (bodies-written (first .before .before .before)) (first .copy-in .ensures) (second .put-entries .ensures) (third .put-bodies .ensures) room
     (put-entries-requires (second .before) (second .put-entries .lifetimes) .1)
 
 pub encode-spec : {M : Type 1} → statement M

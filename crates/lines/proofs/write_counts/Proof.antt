@@ -4,7 +4,7 @@ use mathlib.Core.List.{_++_}
 use Prim.Native.Nat.{_+_, _≤_}
 use lib.ListN.{length}
 use Rattle.decimals.specs.Decimal.{ascii, decimal, numberLine}
-use Rattle.decimals.proofs.Puts.{first-fits, second-fits, written-then}
+use Rattle.copying.proofs.Writing.{first-fits, second-fits, written-then}
 use Rattle.lines.proofs.Lines.{counts-parts}
 use Rattle.lines.proofs.write_counts.Statement.{statement}
 use Rattle.lines.proofs.write_counts.Tie as tie

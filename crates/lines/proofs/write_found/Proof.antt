@@ -5,8 +5,8 @@ use Prim.Native.Nat.{ℕ, _+_, _≤_}
 use native.Mathlib.Nat.{zero-add}
 use lib.ListN.{length, take}
 use Rattle.lines.specs.Lines.{header, positionLines, counts}
-use Rattle.decimals.specs.Buffer.{Written}
-use Rattle.decimals.proofs.Puts.{first-fits, second-fits, written-then}
+use Rattle.copying.specs.Written.{Written}
+use Rattle.copying.proofs.Writing.{first-fits, second-fits, written-then}
 use Rattle.lines.proofs.Lines.{found-parts}
 use Rattle.lines.proofs.write_found.Statement.{statement}
 use Rattle.lines.proofs.write_found.Tie as tie

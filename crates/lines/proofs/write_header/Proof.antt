@@ -4,8 +4,8 @@ use mathlib.Core.List.{List, _++_}
 use Prim.Native.Nat.{ℕ, _+_, _≤_}
 use lib.ListN.{length}
 use Rattle.decimals.specs.Decimal.{ascii, decimal, numberLine}
-use Rattle.decimals.specs.Buffer.{Written}
-use Rattle.decimals.proofs.Puts.{first-fits, second-fits, written-then}
+use Rattle.copying.specs.Written.{Written}
+use Rattle.copying.proofs.Writing.{first-fits, second-fits, written-then}
 use Rattle.lines.proofs.Lines.{header-parts}
 use Rattle.lines.proofs.write_header.Statement.{statement}
 use Rattle.lines.proofs.write_header.Tie as tie
@@ -37,26 +37,26 @@ one-room : (start : tie.Start) → Fits start (ascii "mix ")
 one-room start = first-fits (start .args .at) (ascii "mix ") (P start) (two-room start)
 
 -- what stands in the buffer after the second part and after the third
-two-written : (c : tie.After-write-bytes2) → let start = c .before .before .before .before .before .before .before .before .before in
-    Written (start .args .buffer .now) (start .args .at) (ascii "mix " ++ P start) (c .write-bytes2 .last .1 .0) (c .write-bytes2 .result)
+two-written : (c : tie.After-copy-in2) → let start = c .before .before .before .before .before .before .before .before .before in
+    Written (start .args .buffer .now) (start .args .at) (ascii "mix " ++ P start) (c .copy-in2 .last .1 .0) (c .copy-in2 .result)
 unfolding ascii
 two-written c =
     let first = c .before .before .before .before in
-    written-then (first .write-bytes .ensures) (c .write-bytes2 .ensures) (one-room (first .before .before .before .before .before))
+    written-then (first .copy-in .ensures) (c .copy-in2 .ensures) (one-room (first .before .before .before .before .before))
 
-slice-aggregate-write-bytes : tie.Need-slice-aggregate-write-bytes
-slice-aggregate-write-bytes c = search needs
+slice-aggregate-copy-in : tie.Need-slice-aggregate-copy-in
+slice-aggregate-copy-in c = search needs
 
-write-bytes-requires : tie.Need-write-bytes-requires
+copy-in-requires : tie.Need-copy-in-requires
 unfolding ascii
-write-bytes-requires c κs = one-room (c .before .before .before .before)
+copy-in-requires c κs = one-room (c .before .before .before .before)
 
-write-bytes-requires-2 : tie.Need-write-bytes-requires-2
+copy-in-requires-2 : tie.Need-copy-in-requires-2
 unfolding ascii
-write-bytes-requires-2 c κs =
+copy-in-requires-2 c κs =
     let first = c .before .before .before in
     let start = first .before .before .before .before .before in
-    second-fits (P start) (first .write-bytes .ensures) (two-room start)
+    second-fits (P start) (first .copy-in .ensures) (two-room start)
 
 slice-aggregate-write-labeled : tie.Need-slice-aggregate-write-labeled
 slice-aggregate-write-labeled c = search needs
@@ -105,9 +105,9 @@ pub write-header-spec : {M : Type 1} → statement M
 write-header-spec =
     tie.close
     (tie.spec
-    slice-aggregate-write-bytes
-    write-bytes-requires
-    write-bytes-requires-2
+    slice-aggregate-copy-in
+    copy-in-requires
+    copy-in-requires-2
     slice-aggregate-write-labeled
     write-labeled-requires
     slice-aggregate-write-labeled-line

@@ -7,8 +7,8 @@ use native.Mathlib.Omega.{arith}
 use lib.ListN.{length, getD, take}
 use Rattle.decimals.specs.Decimal.{numberLine}
 use Rattle.lines.specs.Lines.{positionLines}
-use Rattle.decimals.specs.Buffer.{Written}
-use Rattle.decimals.proofs.Puts.{written-none, written-length, written-then, first-fits, second-fits}
+use Rattle.copying.specs.Written.{Written}
+use Rattle.copying.proofs.Writing.{written-none, written-length, written-then, first-fits, second-fits}
 use Rattle.lines.proofs.Lines.{positions-none, positions-more, positions-room}
 use Rattle.lines.proofs.write_positions.Statement.{statement}
 use Rattle.lines.proofs.write_positions.Tie as tie

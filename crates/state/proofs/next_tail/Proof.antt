@@ -1,11 +1,10 @@
 -- `state::next_tail` meets its contract: the last bytes lie in the chunk, or in the tail and the whole chunk.
-use mathlib.Core.Path.{_≡_, refl, sym, ap, ap₂, _∙_}
+use mathlib.Core.Path.{_≡_, refl, sym, ap, _∙_}
 use mathlib.Core.List.{List, _++_}
-use Prim.Native.Nat.{ℕ, _+_, _-_}
+use Prim.Native.Nat.{ℕ, _+_, _-_, _≤_}
 use native.Mathlib.Omega.{arith}
-use lib.ListN.{length, take, drop, replicate, length-drop, length-replicate}
-use Rattle.listing.specs.Placed.{placed}
-use Rattle.listing.proofs.Placing.{placed-placed}
+use lib.ListN.{length, take, drop, length-drop, length-replicate}
+use Rattle.copying.proofs.Writing.{written-then}
 use Rattle.state.specs.Stored.{padded}
 use Rattle.state.proofs.Padding.{placed-zeros, part-all, last-chunk, last-both}
 use borrow.Author.Needs.{needs}
@@ -71,9 +70,8 @@ returns-2 c =
     let from = length (args .tail .now) + length (args .chunk .now) - args .keep in
     let old : List ℕ = take (length (args .tail .now) - from) (drop from (args .tail .now)) in
     let same : old ≡ drop from (args .tail .now) = part-all (length (args .tail .now) - from) from (args .tail .now) refl in
-    c .before .copy-in2 .ensures .filled
-    ∙ ap₂ (λ (l : List ℕ) (n : ℕ). placed l n (args .chunk .now)) (first .copy-in .ensures .filled) (first .copy-in .ensures .place-after)
-    ∙ placed-placed (replicate 63 0) 0 old (omega (arith, length-replicate {A = ℕ} 63 0, ap length same, length-drop from (args .tail .now))) (args .chunk .now)
+    let room : length old ≤ 63 = omega (arith, ap length same, length-drop from (args .tail .now)) in
+    written-then (first .copy-in .ensures) (c .before .copy-in2 .ensures) (omega (arith, length-replicate {A = ℕ} 63 0)) .filled
     ∙ placed-zeros 63 (old ++ args .chunk .now)
     ∙ ap (padded 63) (ap (λ (l : List ℕ). l ++ args .chunk .now) same ∙ sym (last-both (args .tail .now) (args .chunk .now) (args .keep) (in-both .if1 .left) (start .pre .1)))
 

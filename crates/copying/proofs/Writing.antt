@@ -1,25 +1,18 @@
--- Laws of what a writer yields: nothing, one byte, two writes in a row, and the buffer's length.
-use mathlib.Core.Path.{_≡_, refl, sym, ap, ap₂, _∙_}
+-- Laws of what a writer yields: nothing, two writes in a row, one byte more, and the buffer's length.
+use mathlib.Core.Path.{_≡_, sym, ap, ap₂, _∙_}
 use mathlib.Core.List.{List, [], _∷_, _++_}
 use Prim.Native.Nat.{ℕ, _+_, _≤_, _<_}
-use native.Mathlib.Nat.{add-zero}
+use native.Mathlib.Nat.{add-zero, add-assoc}
 use native.Mathlib.Numerals.{add-one}
 use native.Mathlib.Omega.{arith}
 use lib.ListN.{length, getD, take, set, length-append}
-use lib.Seq.{length-take-le, take-suc, set-split}
+use lib.Seq.{length-take-le, take-suc}
 use Rattle.listing.specs.Placed.{placed}
-use Rattle.listing.proofs.Placing.{placed-nil, length-placed, placed-placed}
-use Rattle.decimals.specs.Buffer.{Written}
-
-placed-byte : (b : List ℕ) (at v : ℕ) → at < length b → set b at v ≡ placed b at (v ∷ [])
-unfolding placed
-placed-byte b at v l = set-split b at v l ∙ rw add-one refl
+use Rattle.listing.proofs.Placing.{placed-nil, length-placed, placed-placed, placed-next}
+use Rattle.copying.specs.Written.{Written}
 
 pub written-none : (b : List ℕ) (at : ℕ) → Written b at [] b at
 written-none b at = record { filled = sym (placed-nil b at); place = sym (add-zero at) }
-
-pub written-byte : (b : List ℕ) (at v : ℕ) → at < length b → Written b at (v ∷ []) (set b at v) (at + 1)
-written-byte b at v l = record { filled = placed-byte b at v l; place = refl }
 
 pub written-length : {b : List ℕ} {at : ℕ} {U after : List ℕ} {next : ℕ}
     → Written b at U after next → at + length U ≤ length b → length after ≡ length b
@@ -52,19 +45,24 @@ module _ {b : List ℕ} {at : ℕ} {U middle : List ℕ} {place : ℕ} (w : Writ
   written-inside = omega (arith, w .place, written-length w (omega arith))
 
   pub written-more : (v : ℕ) → Written b at (U ++ (v ∷ [])) (set middle place v) (place + 1)
-  written-more v = written-then w (written-byte middle place v written-inside) (omega arith)
+  written-more v =
+      record {
+        filled = ap₂ (λ (c : List ℕ) (n : ℕ). set c n v) (w .filled) (w .place) ∙ placed-next b at U v room;
+        place = omega (arith, w .place, length-append U (v ∷ []));
+      }
 
--- a loop that copies a list: the byte at i goes where the bytes before it end
-module _ {b : List ℕ} {at : ℕ} (S : List ℕ) (i : ℕ) {middle : List ℕ} {place : ℕ}
-    (w : Written b at (take i S) middle place) (more : i < length S) (room : at + length S ≤ length b) where
+-- a byte alone is one more than none
+pub written-byte : (b : List ℕ) (at v : ℕ) → at < length b → Written b at (v ∷ []) (set b at v) (at + 1)
+written-byte b at v room = written-more (written-none b at) (omega arith) v
+
+-- a loop that copies a list: the byte at i goes where the i bytes before it end
+module _ {b : List ℕ} {at : ℕ} (S : List ℕ) (i : ℕ) {middle : List ℕ}
+    (w : Written b at (take i S) middle (at + i)) (more : i < length S) (room : at + length S ≤ length b) where
   copied-room : at + length (take i S) < length b
   copied-room = omega (arith, length-take-le i S (omega arith))
 
-  pub copied-inside : place < length middle
+  pub copied-inside : at + i < length middle
   copied-inside = written-inside w copied-room
 
-  pub copied-below : place < at + length S
-  copied-below = omega (arith, w .place, length-take-le i S (omega arith))
-
-  pub copied-more : Written b at (take (i + 1) S) (set middle place (getD S i 0)) (place + 1)
-  copied-more = rw (add-one i, take-suc S i 0) (written-more w copied-room (getD S i 0))
+  pub copied-more : Written b at (take (i + 1) S) (set middle (at + i) (getD S i 0)) (at + (i + 1))
+  copied-more = rw (← add-assoc at i 1, add-one i, take-suc S i 0) (written-more w copied-room (getD S i 0))

@@ -1,7 +1,7 @@
 -- Bytes put into a lent buffer.
-use Prim.Native.Nat.{ℕ, _+_}
 use mathlib.Core.Path.{_≡_}
 use mathlib.Core.List.{List}
+use Prim.Native.Nat.{ℕ, _+_}
 use lib.ListN.{length}
 use Rattle.listing.specs.Placed.{placed}
 
