@@ -6,46 +6,9 @@ ghost use Prim.Native.Nat.{_≤_};
 ghost use lib.Dec.{leb, ltb, eqb};
 ghost use lib.ListN.{length};
 ghost use Rattle.jumbled.specs.Refusals.{given, methodTests, patternTests};
-ghost use Rattle.admit.specs.Numbers.{numberOf, admissionNumber};
-
-// Why a call is refused, in the order of document 01's table; specs/ gives each case its number.
-pub enum Refusal {
-    PatternLength,
-    ToleranceTooLarge,
-    UnknownMethod,
-    ToleranceNotTaken,
-    FieldsTooWide,
-    TextTooLong,
-    TooFewPlaces,
-    TotalTooLarge,
-    Malformed,
-    BufferTooShort,
-    BadRequest,
-}
-
-// The number that document 01 gives a refusal.
-pub fn number_of(refusal: Refusal) -> usize
-    ensures { λ r. ⌜ r ≡ numberOf refusal ⌝ }
-{
-    match refusal {
-        Refusal::PatternLength => 1,
-        Refusal::ToleranceTooLarge => 2,
-        Refusal::UnknownMethod => 3,
-        Refusal::ToleranceNotTaken => 4,
-        Refusal::FieldsTooWide => 5,
-        Refusal::TextTooLong => 6,
-        Refusal::TooFewPlaces => 7,
-        Refusal::TotalTooLarge => 8,
-        Refusal::Malformed => 9,
-        Refusal::BufferTooShort => 10,
-        Refusal::BadRequest => 11,
-    }
-}
-
-pub enum Admission {
-    Accepted,
-    Refused(Refusal),
-}
+ghost use Rattle.refusals.specs.Numbers.{admissionNumber};
+use refusals::Admission;
+use refusals::Refusal;
 
 // The method is one of the five.
 fn known(method: u8) -> bool

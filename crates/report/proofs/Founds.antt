@@ -13,13 +13,12 @@ use Rattle.jumbled.specs.Refusals.{given, patternTests}
 use Rattle.jumbled.proofs.Admission.{Admitted, admitted}
 use Rattle.listing.specs.Placed.{placed}
 use Rattle.listing.proofs.Placing.{length-placed, take-placed}
-use Rattle.admit.specs.Numbers.{numberOf}
-use Rattle.admit.specs.declared.Refusal.{Refusal}
-use Rattle.admit.specs.declared.Refusal.the-variants.{PatternLength, ToleranceTooLarge, UnknownMethod, ToleranceNotTaken, FieldsTooWide, TextTooLong, TooFewPlaces, TotalTooLarge, Malformed, BufferTooShort, BadRequest}
+use Rattle.refusals.specs.Numbers.{numberOf, unlessRefused}
+use Rattle.refusals.specs.declared.Refusal.{Refusal}
+use Rattle.refusals.specs.declared.Refusal.the-variants.{PatternLength, ToleranceTooLarge, UnknownMethod, ToleranceNotTaken, FieldsTooWide, TextTooLong, TooFewPlaces, TotalTooLarge, Malformed, BufferTooShort, BadRequest}
 use Rattle.whole.specs.declared.Answer.the-variants.{Listed, Refused}
-use Rattle.state.specs.Tests.{unlessRefused}
 use Rattle.whole.specs.Whole.{wholeNumber, Whole}
-use Rattle.state.proofs.Refused.{number-positive, on-accepted}
+use Rattle.refusals.proofs.Refused.{number-positive, on-accepted}
 use Rattle.whole.proofs.Wholes.{whole-number}
 use Rattle.lines.specs.Lines.{outputText, refusalText}
 use Rattle.report.specs.Output.{answerText}

@@ -14,7 +14,7 @@ fn answer_request(pattern: &[u8], k: u8, method: u8, text: &[u8], buffer: &mut [
 {
     let mut list = [0u32; LONGEST_INPUT];
     match whole::whole(pattern, k, method, text, &mut list) {
-        Answer::Refused(refusal) => lines::write_refusal(admit::number_of(refusal), buffer, 0),
+        Answer::Refused(refusal) => lines::write_refusal(refusals::number_of(refusal), buffer, 0),
         Answer::Listed { found, looks } => lines::write_found(
             pattern,
             k,

@@ -8,8 +8,8 @@ use Rattle.jumbled.specs.Refusals.{given}
 use Rattle.listing.specs.Placed.{placed}
 use Rattle.image.specs.Image.{Parts, image, saveOrder}
 use Rattle.encode.specs.Writing.{Encoded}
-use Rattle.admit.specs.declared.Refusal.the-variants.{BufferTooShort}
-use Rattle.state.proofs.Refused.{on-refusal, on-accepted}
+use Rattle.refusals.specs.declared.Refusal.the-variants.{BufferTooShort}
+use Rattle.refusals.proofs.Refused.{on-refusal, on-accepted}
 use Rattle.saving.specs.declared.Saving.the-variants as Saving
 use Rattle.saving.specs.Saved.{bufferNumber, Saved}
 

@@ -7,8 +7,7 @@ use lib.ListN.{length}
 use Rattle.jumbled.specs.Refusals.{test, given}
 use Rattle.listing.specs.Placed.{placed}
 use Rattle.image.specs.Image.{Parts, image, saveOrder}
-use Rattle.admit.specs.Numbers.{numberOf}
-use Rattle.state.specs.Tests.{unlessRefused}
+use Rattle.refusals.specs.Numbers.{numberOf, unlessRefused}
 use Rattle.saving.specs.declared.Saving.{Saving}
 use Rattle.saving.specs.declared.Saving.the-variants as Saving
 

@@ -4,7 +4,7 @@ ghost use Prim.Native.Nat.{_≤_};
 ghost use lib.ListN.{length};
 ghost use Rattle.image.specs.Image.{partsWith};
 ghost use Rattle.saving.specs.Saved.{Saved};
-use admit::Refusal;
+use refusals::Refusal;
 
 // What a save answers: the image's length.
 pub enum Saving {

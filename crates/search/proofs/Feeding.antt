@@ -11,14 +11,14 @@ use Rattle.jumbled.specs.Refusals.{test, feedTests}
 use Rattle.jumbled.proofs.Admission.{given-append}
 use Rattle.jumbled.proofs.Methods.{methods-list}
 use Rattle.listing.specs.Placed.{placed, shifted}
-use Rattle.admit.specs.Numbers.{numberOf}
-use Rattle.admit.specs.declared.Refusal.{Refusal}
-use Rattle.admit.specs.declared.Admission.the-variants as Admission
+use Rattle.refusals.specs.Numbers.{numberOf, unlessRefused}
+use Rattle.refusals.specs.declared.Refusal.{Refusal}
+use Rattle.refusals.specs.declared.Admission.the-variants as Admission
 use Rattle.listing.specs.Found.{Found}
 use Rattle.listing.specs.declared.Done.{Done}
 use Rattle.state.specs.Stored.{lastOf}
-use Rattle.state.specs.Tests.{limitNumber, unlessRefused}
-use Rattle.state.proofs.Refused.{number-positive, on-refusal, on-accepted, still-refused, tested-later}
+use Rattle.limits.specs.Limits.{limitNumber}
+use Rattle.refusals.proofs.Refused.{number-positive, on-refusal, on-accepted, still-refused, tested-later}
 use Rattle.whole.specs.declared.Answer.the-variants.{Listed, Refused}
 use Rattle.search.specs.declared.Search.{Search}
 use Rattle.search.specs.Searches.{patternOf, stored}

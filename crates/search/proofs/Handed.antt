@@ -8,14 +8,15 @@ use borrow.Author.Tests.{lt-ltb, le-ltb, ltb-false, eqb-true, not-false}
 use Rattle.jumbled.specs.Match.{Bytes}
 use Rattle.jumbled.specs.Refusals.{test, given, patternTests, methodTests, searchTests, setMethodTests}
 use Rattle.jumbled.proofs.Admission.{Numbered, none, next, given-none, given-append, given-append-none, numbered-append, pattern-numbered}
-use Rattle.admit.specs.Numbers.{admissionNumber}
-use Rattle.admit.specs.declared.Refusal.{Refusal}
-use Rattle.admit.specs.declared.Admission.{Admission}
-use Rattle.admit.specs.declared.Admission.the-variants.{Accepted, Refused}
+use Rattle.refusals.specs.Numbers.{admissionNumber, unlessRefused}
+use Rattle.refusals.specs.declared.Refusal.{Refusal}
+use Rattle.refusals.specs.declared.Admission.{Admission}
+use Rattle.refusals.specs.declared.Admission.the-variants.{Accepted, Refused}
 use Rattle.image.specs.Image.{Parts, partsWith}
 use Rattle.state.specs.Stored.{tailLength}
-use Rattle.state.specs.Tests.{wrongTail, partsNumber, unlessRefused}
-use Rattle.state.proofs.Refused.{on-refusal, on-accepted, still-refused, tested-later, parts-fresh}
+use Rattle.state.specs.Tests.{wrongTail, partsNumber}
+use Rattle.refusals.proofs.Refused.{on-refusal, on-accepted, still-refused, tested-later}
+use Rattle.state.proofs.Parts.{parts-fresh}
 use Rattle.search.specs.declared.Search.{Search}
 use Rattle.search.specs.declared.Held.{Held}
 use Rattle.search.specs.Searches.{patternOf, tailOf, stored, blank, badTail}

@@ -9,12 +9,12 @@ use Rattle.jumbled.specs.Refusals.{test, given, saveTests, loadTests}
 use Rattle.jumbled.proofs.Admission.{given-append}
 use Rattle.listing.specs.Placed.{placed}
 use Rattle.image.specs.Decode.{badForm, partsOf}
-use Rattle.admit.specs.Numbers.{numberOf}
-use Rattle.admit.specs.declared.Refusal.{Refusal}
-use Rattle.admit.specs.declared.Refusal.the-variants.{Malformed}
-use Rattle.admit.specs.declared.Admission.the-variants.{Refused}
-use Rattle.state.specs.Tests.{partsNumber, unlessRefused}
-use Rattle.state.proofs.Refused.{on-refusal, still-refused, tested-later}
+use Rattle.refusals.specs.Numbers.{numberOf, unlessRefused}
+use Rattle.refusals.specs.declared.Refusal.{Refusal}
+use Rattle.refusals.specs.declared.Refusal.the-variants.{Malformed}
+use Rattle.refusals.specs.declared.Admission.the-variants.{Refused}
+use Rattle.state.specs.Tests.{partsNumber}
+use Rattle.refusals.proofs.Refused.{on-refusal, still-refused, tested-later}
 use Rattle.search.specs.declared.Search.{Search}
 use Rattle.search.specs.declared.Held.{Held}
 use Rattle.saving.specs.declared.Saving.{Saving}

@@ -11,9 +11,9 @@ use Rattle.jumbled.specs.Refusals.{Test, given, patternTests, searchTests, feed
 use Rattle.listing.specs.Placed.{placed, shifted}
 use Rattle.image.specs.Image.{Parts, partsWith, image, saveOrder}
 use Rattle.image.specs.Decode.{badForm, partsOf}
-use Rattle.admit.specs.Numbers.{admissionNumber}
+use Rattle.refusals.specs.Numbers.{admissionNumber, unlessRefused}
 use Rattle.state.specs.Stored.{lastOf, tailLength}
-use Rattle.state.specs.Tests.{wrongTail, partsNumber, unlessRefused}
+use Rattle.state.specs.Tests.{wrongTail, partsNumber}
 use Rattle.saving.specs.Saved.{savingNumber, savingLength}
 use Rattle.whole.specs.Answers.{answerNumber, answerFound, answerLooks}
 use Rattle.whole.specs.Whole.{tooLong, tooFewPlaces}

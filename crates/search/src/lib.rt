@@ -6,13 +6,13 @@ ghost use lib.ListN.{length};
 ghost use Rattle.jumbled.specs.Steps.{steps};
 ghost use Rattle.listing.specs.Found.{Found};
 ghost use Rattle.image.specs.Image.{partsWith};
-ghost use Rattle.admit.specs.Numbers.{admissionNumber};
-ghost use Rattle.state.specs.Tests.{limitNumber};
+ghost use Rattle.refusals.specs.Numbers.{admissionNumber};
+ghost use Rattle.limits.specs.Limits.{limitNumber};
 ghost use Rattle.search.specs.Searches.{patternOf, stored};
 ghost use Rattle.search.specs.Calls.{handedNumber, Opened, Advancing, reached, fedParts, Feeds, SetsMethod, Saves, HeldWith, Loads};
-use admit::Admission;
-use admit::Refusal;
 use pieces::Done;
+use refusals::Admission;
+use refusals::Refusal;
 // Whole search has a crate of its own, and so has the saving of a search's parts; the names that a caller needs are here too.
 pub use saving::Saving;
 pub use whole::Answer;
@@ -53,7 +53,7 @@ impl Search {
     // The longest pattern,
     pub const LONGEST_PATTERN: usize = 64;
     // the longest text or chunk,
-    pub const LONGEST_CHUNK: usize = state::LONGEST_TEXT;
+    pub const LONGEST_CHUNK: usize = limits::LONGEST_TEXT;
     // and the blank search.
     pub const BLANK: Search = Search {
         pattern: [0; 64],
@@ -216,7 +216,7 @@ impl Search {
                 search: self,
             };
         }
-        let limits = state::limits(self.total, chunk.len(), list.len());
+        let limits = limits::limits(self.total, chunk.len(), list.len());
         if let Admission::Refused(refusal) = limits {
             return Fed {
                 answer: Answer::Refused(refusal),

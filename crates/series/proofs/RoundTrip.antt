@@ -7,7 +7,7 @@ use lib.Dec.{ltb}
 use lib.ListN.{length, length-take}
 use Rattle.jumbled.specs.Refusals.{test, saveTests}
 use Rattle.image.specs.Image.{image, IsOrder, saveOrder}
-use Rattle.admit.specs.Numbers.{admissionNumber}
+use Rattle.refusals.specs.Numbers.{admissionNumber}
 use Rattle.search.specs.declared.Search.{Search}
 use Rattle.search.specs.declared.Held.{Held}
 use Rattle.search.specs.declared.Kept.{Kept}

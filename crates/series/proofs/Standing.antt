@@ -15,7 +15,7 @@ use Rattle.listing.proofs.Placing.{length-shifted}
 use Rattle.image.specs.Image.{Parts, partsWith, image, saveOrder}
 use Rattle.image.specs.Decode.{partsOf}
 use Rattle.image.proofs.Images.{save-order}
-use Rattle.admit.specs.Numbers.{admissionNumber}
+use Rattle.refusals.specs.Numbers.{admissionNumber}
 use Rattle.search.specs.declared.Search.{Search}
 use Rattle.whole.specs.declared.Answer.{Answer}
 use Rattle.search.specs.declared.Held.{Held}

@@ -7,7 +7,7 @@ use lib.ListN.{length, take}
 use Rattle.jumbled.specs.Match.{positions}
 use Rattle.jumbled.specs.Steps.{steps}
 use Rattle.listing.specs.Placed.{placed}
-use Rattle.admit.specs.Numbers.{admissionNumber}
+use Rattle.refusals.specs.Numbers.{admissionNumber}
 use Rattle.search.specs.declared.Search.{Search}
 use Rattle.whole.specs.declared.Answer.{Answer}
 use Rattle.search.specs.declared.Held.{Held}

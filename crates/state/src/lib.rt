@@ -4,14 +4,11 @@ ghost use mathlib.Core.Path.{_≡_};
 ghost use mathlib.Core.List.{_++_};
 ghost use Prim.Native.Nat.{_+_, _≤_};
 ghost use lib.ListN.{length};
-ghost use Rattle.admit.specs.Numbers.{admissionNumber};
+ghost use Rattle.refusals.specs.Numbers.{admissionNumber};
 ghost use Rattle.state.specs.Stored.{padded, lastOf, tailLength};
-ghost use Rattle.state.specs.Tests.{partsNumber, limitNumber};
-use admit::Admission;
-use admit::Refusal;
-
-// The longest text or chunk.
-pub const LONGEST_TEXT: usize = 65536;
+ghost use Rattle.state.specs.Tests.{partsNumber};
+use refusals::Admission;
+use refusals::Refusal;
 
 // Source in the first places of an array of 64, the others 0.
 pub fn stored_pattern(source: &[u8]) -> [u8; 64]
@@ -68,22 +65,6 @@ pub fn admit_parts(pattern: &[u8], k: u8, method: u8, total: u32, tail: usize) -
     }
     if tail != tail_length(pattern.len(), total as usize) {
         return Admission::Refused(Refusal::Malformed);
-    }
-    Admission::Accepted
-}
-
-// The tests of a chunk's length and the list's places after total bytes: 6, 7, 8.
-pub fn limits(total: u32, chunk: usize, places: usize) -> Admission
-    ensures { λ r. ⌜ admissionNumber r ≡ limitNumber total chunk places ⌝ }
-{
-    if LONGEST_TEXT < chunk {
-        return Admission::Refused(Refusal::TextTooLong);
-    }
-    if places < chunk {
-        return Admission::Refused(Refusal::TooFewPlaces);
-    }
-    if 4294967295 < total as usize + chunk {
-        return Admission::Refused(Refusal::TotalTooLarge);
     }
     Admission::Accepted
 }

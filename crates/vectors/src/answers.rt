@@ -1,11 +1,11 @@
 // Outcomes, made of what a call answered.
 ghost use mathlib.Core.Path.{_≡_};
-ghost use Rattle.admit.specs.Numbers.{admissionNumber};
+ghost use Rattle.refusals.specs.Numbers.{admissionNumber};
 ghost use Rattle.whole.specs.Answers.{answerNumber, answerFound, answerLooks};
 ghost use Rattle.saving.specs.Saved.{savingNumber, savingLength};
 ghost use Rattle.outcomes.specs.Outcomes.{outcomeOf};
-use admit::Admission;
 use outcomes::Outcome;
+use refusals::Admission;
 use search::Answer;
 use search::Saving;
 
@@ -15,7 +15,7 @@ pub fn answered(answer: Answer, digest: u64) -> Outcome
 {
     match answer {
         Answer::Refused(refusal) => Outcome {
-            number: admit::number_of(refusal) as u64,
+            number: refusals::number_of(refusal) as u64,
             a: 0,
             b: 0,
             digest,
@@ -35,7 +35,7 @@ pub fn admitted(admission: Admission, digest: u64) -> Outcome
 {
     match admission {
         Admission::Refused(refusal) => Outcome {
-            number: admit::number_of(refusal) as u64,
+            number: refusals::number_of(refusal) as u64,
             a: 0,
             b: 0,
             digest,
@@ -55,7 +55,7 @@ pub fn saved(saving: Saving, digest: u64) -> Outcome
 {
     match saving {
         Saving::Refused(refusal) => Outcome {
-            number: admit::number_of(refusal) as u64,
+            number: refusals::number_of(refusal) as u64,
             a: 0,
             b: 0,
             digest,

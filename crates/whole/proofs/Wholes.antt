@@ -14,13 +14,13 @@ use Rattle.jumbled.proofs.Admission.{given-append, pattern-numbered}
 use Rattle.jumbled.proofs.Methods.{methods-list}
 use Rattle.listing.specs.Placed.{placed}
 use Rattle.listing.proofs.Placing.{shifted-zero}
-use Rattle.admit.specs.Numbers.{numberOf}
-use Rattle.admit.specs.declared.Refusal.{Refusal}
+use Rattle.refusals.specs.Numbers.{numberOf, unlessRefused}
+use Rattle.refusals.specs.declared.Refusal.{Refusal}
 use Rattle.listing.specs.Found.{Found}
 use Rattle.listing.specs.declared.Done.{Done}
 use Rattle.whole.specs.declared.Answer.the-variants.{Listed, Refused}
-use Rattle.state.specs.Tests.{limitNumber, unlessRefused}
-use Rattle.state.proofs.Refused.{number-positive, on-refusal, on-accepted}
+use Rattle.limits.specs.Limits.{limitNumber}
+use Rattle.refusals.proofs.Refused.{number-positive, on-refusal, on-accepted}
 use Rattle.whole.specs.Whole.{tooLong, tooFewPlaces, wholeNumber, Whole}
 
 -- the tests of a whole search: those of the pattern, then 6 and 7

@@ -1,6 +1,6 @@
 -- Document 01's number and values for each answer of a search: "When a call says no", and "A refusal reports 0 found, 0 looks".
 use Prim.Native.Nat.{ℕ}
-use Rattle.admit.specs.Numbers.{numberOf}
+use Rattle.refusals.specs.Numbers.{numberOf}
 use Rattle.whole.specs.declared.Answer.{Answer}
 use Rattle.whole.specs.declared.Answer.the-variants.{Listed, Refused}
 

@@ -10,7 +10,7 @@ use Rattle.jumbled.specs.Steps.{steps}
 use Rattle.jumbled.specs.Refusals.{given, wholeTests}
 use Rattle.listing.specs.Placed.{placed}
 use Rattle.whole.specs.declared.Answer.{Answer}
-use Rattle.state.specs.Tests.{unlessRefused}
+use Rattle.refusals.specs.Numbers.{unlessRefused}
 use Rattle.whole.specs.Answers.{answerNumber, answerFound, answerLooks}
 
 -- 6: over 65,536 bytes

@@ -1,8 +1,8 @@
 // Whole search: document 01, "A search and its calls".
 
 ghost use Rattle.whole.specs.Whole.{Whole};
-use admit::Admission;
-use admit::Refusal;
+use refusals::Admission;
+use refusals::Refusal;
 
 // What a search of a text or of a chunk answers.
 pub enum Answer {
@@ -18,7 +18,7 @@ pub fn whole(pattern: &[u8], k: u8, method: u8, text: &[u8], list: &mut [u32]) -
     if let Admission::Refused(refusal) = admission {
         return Answer::Refused(refusal);
     }
-    let limits = state::limits(0, text.len(), list.len());
+    let limits = limits::limits(0, text.len(), list.len());
     if let Admission::Refused(refusal) = limits {
         return Answer::Refused(refusal);
     }

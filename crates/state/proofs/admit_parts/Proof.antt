@@ -6,10 +6,11 @@ use lib.ListN.{length}
 use borrow.Author.Tests.{eq-eqb, ne-eqb}
 use Rattle.jumbled.specs.Refusals.{given, patternTests}
 use Rattle.jumbled.proofs.Admission.{admitted}
-use Rattle.admit.specs.Numbers.{admissionNumber}
+use Rattle.refusals.specs.Numbers.{admissionNumber}
 use Rattle.state.specs.Stored.{tailLength}
 use Rattle.state.specs.Tests.{wrongTail, partsNumber}
-use Rattle.state.proofs.Refused.{still-refused, tested-later, parts-number}
+use Rattle.refusals.proofs.Refused.{still-refused, tested-later}
+use Rattle.state.proofs.Parts.{parts-number}
 use borrow.Author.Needs.{needs}
 use Rattle.state.proofs.admit_parts.Statement.{statement}
 use Rattle.state.proofs.admit_parts.Tie as tie

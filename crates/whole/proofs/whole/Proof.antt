@@ -4,9 +4,9 @@ use native.Mathlib.Omega.{arith}
 use lib.ListN.{length}
 use Rattle.jumbled.specs.Refusals.{given, patternTests}
 use Rattle.jumbled.proofs.Admission.{admitted, method-given}
-use Rattle.admit.specs.Numbers.{admissionNumber}
-use Rattle.state.specs.Tests.{limitNumber}
-use Rattle.state.proofs.Refused.{within}
+use Rattle.refusals.specs.Numbers.{admissionNumber}
+use Rattle.limits.specs.Limits.{limitNumber}
+use Rattle.limits.proofs.Within.{within}
 use Rattle.whole.proofs.Wholes.{whole-refused-early, whole-late, whole-refused, whole-listed}
 use borrow.Author.Needs.{needs}
 use Rattle.whole.proofs.whole.Statement.{statement}

@@ -7,9 +7,9 @@ use mir.Syntax.{w8}
 use mir.Val.{Fits}
 use Rattle.jumbled.proofs.Admission.{admitted}
 use Rattle.jumbled.proofs.Counts.{bytes-take, bytes-append}
-use Rattle.admit.specs.Numbers.{admissionNumber}
-use Rattle.state.specs.Tests.{limitNumber}
-use Rattle.state.proofs.Refused.{within}
+use Rattle.refusals.specs.Numbers.{admissionNumber}
+use Rattle.limits.specs.Limits.{limitNumber}
+use Rattle.limits.proofs.Within.{within}
 use Rattle.search.specs.Searches.{patternOf, tailOf}
 use Rattle.search.specs.Calls.{handedNumber}
 use Rattle.search.proofs.Handed.{Stored, sound, pattern-length}

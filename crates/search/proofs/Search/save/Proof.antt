@@ -2,7 +2,7 @@
 use mathlib.Core.Path.{_≡_, sym, ap, _∙_}
 use native.Mathlib.Omega.{arith}
 use lib.ListN.{length}
-use Rattle.admit.specs.Numbers.{admissionNumber}
+use Rattle.refusals.specs.Numbers.{admissionNumber}
 use Rattle.search.specs.declared.Search.{Search}
 use Rattle.search.specs.Searches.{patternOf, tailOf}
 use Rattle.search.specs.Calls.{handedNumber}

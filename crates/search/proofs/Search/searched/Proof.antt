@@ -3,7 +3,7 @@ use mathlib.Core.Path.{_≡_, sym}
 use native.Mathlib.Omega.{arith}
 use lib.ListN.{length}
 use Rattle.jumbled.proofs.Admission.{admitted, method-given}
-use Rattle.state.proofs.Refused.{within}
+use Rattle.limits.proofs.Within.{within}
 use Rattle.search.specs.Searches.{patternOf}
 use Rattle.search.proofs.Handed.{Sound, sound, pattern-length, tail-fits, tail-length}
 use borrow.Author.Needs.{needs}

@@ -3,7 +3,7 @@ use mathlib.Core.Path.{_≡_, sym, ap, _∙_}
 use native.Mathlib.Omega.{arith}
 use lib.ListN.{length}
 use Rattle.jumbled.proofs.Admission.{admitted}
-use Rattle.admit.specs.Numbers.{admissionNumber}
+use Rattle.refusals.specs.Numbers.{admissionNumber}
 use Rattle.search.specs.Searches.{patternOf}
 use Rattle.search.specs.Calls.{handedNumber}
 use Rattle.search.proofs.Handed.{sound, pattern-length, method-refused-early, method-refused-late, method-set}

@@ -3,10 +3,10 @@ use mathlib.Core.Path.{_≡_, sym, ap, _∙_}
 use native.Mathlib.Omega.{arith}
 use lib.ListN.{length}
 use Rattle.jumbled.proofs.Admission.{Admitted, admitted}
-use Rattle.admit.specs.Numbers.{admissionNumber}
+use Rattle.refusals.specs.Numbers.{admissionNumber}
 use Rattle.image.specs.Image.{Parts, partsWith}
 use Rattle.state.specs.Stored.{tailLength}
-use Rattle.state.proofs.Refused.{parts-right}
+use Rattle.state.proofs.Parts.{parts-right}
 use Rattle.search.specs.Calls.{numberOfParts}
 use Rattle.search.proofs.Handed.{held-refused, held-accepted}
 use borrow.Author.Needs.{needs}

@@ -1,11 +1,11 @@
--- `state::limits` meets its contract: a test a return.
+-- `limits::limits` meets its contract: a test a return.
 use mathlib.Core.Path.{refl}
 use borrow.Author.Tests.{lt-ltb, le-ltb}
 use Rattle.jumbled.specs.Refusals.{given}
-use Rattle.state.specs.Tests.{limitNumber}
+use Rattle.limits.specs.Limits.{limitNumber}
 use borrow.Author.Needs.{needs}
-use Rattle.state.proofs.limits.Statement.{statement}
-use Rattle.state.proofs.limits.Tie as tie
+use Rattle.limits.proofs.limits.Statement.{statement}
+use Rattle.limits.proofs.limits.Tie as tie
 
 returns : tie.Need-returns
 unfolding limitNumber given
