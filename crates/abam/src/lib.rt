@@ -1,3 +1,4 @@
+// The search loop of method 4. What it has in common with those of 2 and 3 is said in the crate backward.
 ghost use lib.ListN.{length};
 ghost use Rattle.jumbled.specs.Steps.{abamScan};
 ghost use Rattle.backward.specs.Searched.{Searchable, Searched};

@@ -1,3 +1,4 @@
+// The search loop of method 2. What it has in common with those of 3 and 4 is said in the crate backward.
 ghost use lib.ListN.{length};
 ghost use Rattle.jumbled.specs.Steps.{bamScan};
 ghost use Rattle.backward.specs.Searched.{Searchable, Searched};
