@@ -5,7 +5,7 @@ ghost use Prim.Native.Nat.{_≤_};
 ghost use lib.ListN.{length};
 ghost use Rattle.io.specs.Counts.{Counts};
 ghost use Rattle.image.specs.Decode.{number};
-ghost use Rattle.stream.specs.Reading.{Within};
+ghost use Rattle.stream.specs.Reading.{Within, partAt, numberAt};
 use fillings::put_letters;
 
 // A place past the end of every stream.
@@ -32,6 +32,7 @@ pub struct Text {
 // The next `count` bytes, or none.
 fn take_part(stream: &[u8], at: usize, count: usize) -> Part
     ensures { λ r. ⌜ Within (length (now (stream .entry))) count (r .start) (r .end) ⌝ }
+    ensures { λ r. ⌜ r ≡ partAt (now (stream .entry)) at count ⌝ }
 {
     if at <= stream.len() {
         if count <= stream.len() - at {
@@ -67,6 +68,7 @@ fn low_first(bytes: &[u8]) -> u64
 pub fn read_number(stream: &[u8], at: usize, width: usize, most: u64) -> Number
     requires { ⌜ width ≤ 8 ⌝ }
     ensures { λ r. ⌜ r .value ≤ most ⌝ }
+    ensures { λ r. ⌜ r ≡ numberAt (now (stream .entry)) at width most ⌝ }
 {
     let part = take_part(stream, at, width);
     let start = part.start;
