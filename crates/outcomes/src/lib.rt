@@ -2,7 +2,7 @@
 ghost use mathlib.Core.Path.{_≡_};
 ghost use Prim.Native.Nat.{_+_, _≤_, _<_};
 ghost use lib.ListN.{length};
-ghost use Rattle.outcomes.specs.Outcomes.{sameOutcome};
+ghost use Rattle.outcomes.specs.Outcomes.{outcomeAfter, sameOutcome};
 use libc::STDOUT_FILENO;
 use stream::read_number;
 
@@ -21,7 +21,9 @@ pub struct Stored {
 }
 
 // The outcome that stands in the stream after a case, if it has one; else all 0.
-pub fn read_outcome(stream: &[u8], at: usize, stored: bool) -> Stored {
+pub fn read_outcome(stream: &[u8], at: usize, stored: bool) -> Stored
+    ensures { λ r. ⌜ r ≡ outcomeAfter (now (stream .entry)) at stored ⌝ }
+{
     if !stored {
         return Stored {
             outcome: Outcome {
