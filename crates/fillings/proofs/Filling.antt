@@ -1,12 +1,13 @@
 -- A loop that fills places from the front, each with what a definition says of it.
 use borrow.Author.Count.{below-more}
+use borrow.Author.Tests.{eq-eqb, ne-eqb}
 use mathlib.Core.Path.{_≡_, sym, _∙_}
 use mathlib.Core.List.{List}
 use Prim.Native.Nat.{ℕ, zero, suc, _+_, _*_, _%_, _^_, _≤_, _<_}
 use native.Mathlib.Omega.{arith}
 use lib.ListN.{length, getD, set, length-set}
 use lib.Seq.{getD-set-same, getD-set-other, length-take-le}
-use Rattle.fillings.specs.Fillings.{Filled, drawn}
+use Rattle.fillings.specs.Fillings.{Filled, drawn, madeLength}
 
 -- the first i places, of n to be filled, hold what f says, and there are as many places as before
 pub record Filling (f : ℕ → ℕ) (n : ℕ) (before places : List ℕ) (i : ℕ) : Type 0 where
@@ -40,6 +41,15 @@ filling-all {f} {n} {before} {places} filling room all =
 -- nothing is filled
 pub filled-none : (f : ℕ → ℕ) (places : List ℕ) → Filled f 0 places
 filled-none f places = record { within = (omega arith, omega arith); held = λ j l. absurd (omega arith) }
+
+-- how much is filled
+pub made-none : (letters : List ℕ) (len : ℕ) → length letters ≡ 0 → 0 ≡ madeLength letters len
+unfolding madeLength
+made-none letters len none = rw (eq-eqb (length letters) 0 none)
+
+pub made-all : (letters : List ℕ) (len : ℕ) → (length letters ≡ 0 → ⊥) → len ≡ madeLength letters len
+unfolding madeLength
+made-all letters len some = rw (ne-eqb (length letters) 0 some)
 
 -- ---- numbers drawn from a seed
 

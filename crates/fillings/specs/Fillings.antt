@@ -3,6 +3,7 @@ use mathlib.Core.Path.{_≡_}
 use mathlib.Core.Bool.{Bool, cond}
 use mathlib.Core.List.{List}
 use Prim.Native.Nat.{ℕ, zero, suc, _+_, _*_, _/_, _%_, _^_, _<_}
+use lib.Dec.{eqb}
 use lib.ListN.{length, getD}
 use Rattle.io.specs.Counts.{Counts}
 
@@ -29,3 +30,7 @@ letterIndex picked x i = cond picked (x / 65536) i
 
 abbrev pub letterAt : List ℕ → Bool → ℕ → ℕ → ℕ
 letterAt letters picked seed i = getD letters (letterIndex picked (drawn seed (suc i)) i % length letters) 0
+
+-- The length of a text that is to have `len` bytes: without letters there are none
+unfoldable pub madeLength : List ℕ → ℕ → ℕ
+madeLength letters len = cond (eqb (length letters) 0) 0 len

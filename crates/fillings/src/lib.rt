@@ -3,7 +3,7 @@
 ghost use mathlib.Core.Path.{_≡_};
 ghost use Prim.Native.Nat.{_≤_};
 ghost use lib.ListN.{length};
-ghost use Rattle.fillings.specs.Fillings.{Filled, knownPlace, knownByte, letterIndex, letterAt};
+ghost use Rattle.fillings.specs.Fillings.{Filled, knownPlace, knownByte, letterIndex, letterAt, madeLength};
 
 // Each place holds a number that tells which place it is, so that a place that a call should have left alone shows.
 pub fn fill_list(list: &mut [u32], places: usize)
@@ -40,6 +40,7 @@ fn letter_index(picked: bool, x: u64, i: usize) -> usize
 pub fn put_letters(letters: &[u8], picked: bool, seed: u64, len: usize, text: &mut [u8]) -> usize
     requires { ⌜ len ≤ length (now text) ⌝ }
     ensures { λ r. ⌜ r ≤ len ⌝ }
+    ensures { λ r. ⌜ r ≡ madeLength (now (letters .entry)) len ⌝ }
     ensures { λ r. ⌜ Filled (letterAt (now (letters .entry)) picked seed) r (now (text .exit)) ⌝ }
 {
     if letters.len() == 0 {

@@ -6,6 +6,7 @@ ghost use lib.ListN.{length};
 ghost use Rattle.io.specs.Counts.{Counts};
 ghost use Rattle.image.specs.Decode.{number};
 ghost use Rattle.stream.specs.Reading.{Within, partAt, numberAt};
+ghost use Rattle.stream.specs.Texts.{Spelled, spelling};
 use fillings::put_letters;
 
 // A place past the end of every stream.
@@ -98,7 +99,7 @@ pub fn spell(
 ) -> Text
     requires { ⌜ len ≤ length (now text) ⌝ }
     ensures { λ r. ⌜ r .len ≤ len ⌝ }
-    ensures { λ r. ⌜ Counts (r .len) (now (text .exit)) ⌝ }
+    ensures { λ r. ⌜ Spelled (now (stream .entry)) (spelling at count picked seed len) r (now (text .exit)) ⌝ }
 {
     let letters = take_part(stream, at, count);
     let start = letters.start;

@@ -7,7 +7,7 @@ use native.Mathlib.Numerals.{add-one}
 use native.Mathlib.Omega.{arith}
 use lib.ListN.{length, getD}
 use Rattle.fillings.specs.Fillings.{drawn, letterIndex, letterAt}
-use Rattle.fillings.proofs.Filling.{Filling, filling-none, filling-more, filling-all, filled-none, drawn-small, drawn-more}
+use Rattle.fillings.proofs.Filling.{Filling, filling-none, filling-more, filling-all, filled-none, made-none, made-all, drawn-small, drawn-more}
 use Rattle.fillings.proofs.put_letters.Statement.{statement}
 use Rattle.fillings.proofs.put_letters.Tie as tie
 
@@ -18,7 +18,7 @@ abbrev μ-loop : tie.MeasureT-loop
 μ-loop letters picked seed len text₀ x₀ i₀ text x i = len - i
 
 returns : tie.Need-returns Inv-loop μ-loop
-returns c = (omega arith, filled-none _ _)
+returns c = (omega arith, (made-none _ _ (c .if1 .taken), filled-none _ _))
 
 loop-holds : tie.Need-loop-holds Inv-loop μ-loop
 unfolding drawn
@@ -69,7 +69,11 @@ same-length : tie.Need-same-length Inv-loop μ-loop
 same-length c = c .before .loop .inv .1 .kept
 
 returns-2 : tie.Need-returns-2 Inv-loop μ-loop
-returns-2 c = (omega arith, filling-all (c .before .loop .inv .1) (c .before .before .before .before .before .pre) (omega arith))
+returns-2 c =
+    let some = c .before .before in (
+      omega arith,
+      (made-all _ _ (some .if1 .left), filling-all (c .before .loop .inv .1) (some .before .before .before .pre) (omega arith)),
+    )
 
 pub put-letters-spec : {M : Type 1} → statement M
 put-letters-spec =
