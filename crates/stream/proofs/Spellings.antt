@@ -1,13 +1,17 @@
--- A text that was made of the letters of a part.
-use borrow.Author.Tests.{lt-ltb, le-ltb}
+-- Texts: made of the letters of a part, and in each of their forms.
+use borrow.Author.Tests.{lt-ltb, le-ltb, eq-eqb, ne-eqb}
 use mathlib.Core.Path.{_≡_, ap, _∙_}
-use mathlib.Core.Bool.{Bool}
+use mathlib.Core.Bool.{false}
 use mathlib.Core.List.{List}
-use Prim.Native.Nat.{ℕ, _≤_, _<_}
+use Prim.Native.Nat.{ℕ, _*_, _-_, _≤_, _<_}
+use lib.Dec.{eqb}
 use Rattle.fillings.specs.Fillings.{Filled, letterAt, madeLength}
+use Rattle.fillings.proofs.Filling.{filled-none}
+use Rattle.stream.specs.declared.Number.{Number}
 use Rattle.stream.specs.declared.Part.{Part}
-use Rattle.stream.specs.Reading.{nowhere, partAt, bytesIn}
-use Rattle.stream.specs.Texts.{Spelling, letters, textByte, textWith, textOf, Spelled}
+use Rattle.stream.specs.declared.Text.{Text}
+use Rattle.stream.specs.Reading.{nowhere, partAt, bytesIn, numberAt}
+use Rattle.stream.specs.Texts.{Spelling, spelling, letters, textByte, textWith, textOf, Spelled, plainSpelling, madeSpelling, spellingAt, textAt, TextRead}
 
 module _
     (stream : List ℕ) (s : Spelling) (buffer : List ℕ) {part : Part} (is : part ≡ partAt stream (s .at) (s .count))
@@ -28,3 +32,41 @@ module _
   pub spelled-whole : s .len ≤ made → Spelled stream s (textWith made (part .next)) buffer
   unfolding textOf
   spelled-whole h = record { is = rw (← length-is, le-ltb made (s .len) h, is); bytes = bytes-are }
+
+-- ---- the forms of a text
+
+pub made-spelled : (stream : List ℕ) (at form longest : ℕ) {text : Text} {buffer : List ℕ} {len seed count : Number}
+    → len ≡ numberAt stream at 4 longest
+    → seed ≡ numberAt stream (len .next) ((form - 1) * 4) 4294967295
+    → count ≡ numberAt stream (seed .next) 1 255
+    → Spelled stream (spelling (count .next) (count .value) (eqb form 2) (seed .value) (len .value)) text buffer
+    → Spelled stream (madeSpelling stream at form longest) text buffer
+unfolding madeSpelling
+made-spelled stream at form longest el es ec spelled = rw (ec, es, el) at spelled
+
+pub plain-spelled : (stream : List ℕ) (at longest : ℕ) {text : Text} {buffer : List ℕ} {len : Number}
+    → len ≡ numberAt stream at 2 longest
+    → Spelled stream (spelling (len .next) (len .value) false 0 (len .value)) text buffer
+    → Spelled stream (plainSpelling stream at longest) text buffer
+unfolding plainSpelling
+plain-spelled stream at longest el spelled = rw el at spelled
+
+module _ (stream : List ℕ) (at longest : ℕ) where
+  pub text-none : (buffer : List ℕ) → longest ≡ 0 → TextRead stream at longest (textWith 0 at) buffer
+  unfolding textAt
+  text-none buffer none = record { is = rw (eq-eqb longest 0 none); bytes = filled-none _ _ }
+
+  text-some : {text : Text} {buffer : List ℕ} → (longest ≡ 0 → ⊥) → Spelled stream (spellingAt stream at longest) text buffer
+      → TextRead stream at longest text buffer
+  unfolding textAt
+  text-some some spelled = record { is = rw (ne-eqb longest 0 some) (spelled .is); bytes = spelled .bytes }
+
+  pub text-made : {text : Text} {buffer : List ℕ} {form : Number} → (longest ≡ 0 → ⊥) → form ≡ numberAt stream at 1 2 → 0 < form .value
+      → Spelled stream (madeSpelling stream (form .next) (form .value) longest) text buffer → TextRead stream at longest text buffer
+  unfolding spellingAt
+  text-made {form = form} some e h spelled = text-some some (rw (← e, lt-ltb 0 (form .value) h) spelled)
+
+  pub text-plain : {text : Text} {buffer : List ℕ} {form : Number} → (longest ≡ 0 → ⊥) → form ≡ numberAt stream at 1 2 → form .value ≤ 0
+      → Spelled stream (plainSpelling stream (form .next) longest) text buffer → TextRead stream at longest text buffer
+  unfolding spellingAt
+  text-plain {form = form} some e h spelled = text-some some (rw (← e, le-ltb 0 (form .value) h) spelled)

@@ -1,11 +1,11 @@
 -- Texts, as letters that the stream has spell them (tools/vectors_stream.py).
 use mathlib.Core.Path.{_≡_}
-use mathlib.Core.Bool.{Bool, cond}
+use mathlib.Core.Bool.{Bool, false, cond}
 use mathlib.Core.List.{List}
-use Prim.Native.Nat.{ℕ}
-use lib.Dec.{ltb}
+use Prim.Native.Nat.{ℕ, _*_, _-_}
+use lib.Dec.{eqb, ltb}
 use Rattle.fillings.specs.Fillings.{Filled, letterAt, madeLength}
-use Rattle.stream.specs.Reading.{nowhere, bytesAt, nextAt}
+use Rattle.stream.specs.Reading.{nowhere, bytesAt, nextAt, numberAt}
 use Rattle.stream.specs.declared.Text.{Text}
 
 -- How a text is spelled: `len` bytes, made of `count` letters that stand at a place, which are picked by the numbers drawn from a seed or repeated
@@ -41,3 +41,32 @@ textOf stream s =
 pub record Spelled (stream : List ℕ) (s : Spelling) (text : Text) (buffer : List ℕ) : Type 0 where
   pub is : text ≡ textOf stream s
   pub bytes : Filled (textByte stream s) (text .len) buffer
+
+-- The three forms of a text, after the byte that says which. The form 0: "u16 length, the bytes"
+unfoldable pub plainSpelling : List ℕ → ℕ → ℕ → Spelling
+plainSpelling stream at longest =
+    let len = numberAt stream at 2 longest in
+    spelling (len .next) (len .value) false 0 (len .value)
+
+-- The forms 1 and 2: "u32 length", in the form 2 "u32 seed", and "u8 count" before the letters
+unfoldable pub madeSpelling : List ℕ → ℕ → ℕ → ℕ → Spelling
+madeSpelling stream at form longest =
+    let len = numberAt stream at 4 longest in
+    let seed = numberAt stream (len .next) ((form - 1) * 4) 4294967295 in
+    let count = numberAt stream (seed .next) 1 255 in
+    spelling (count .next) (count .value) (eqb form 2) (seed .value) (len .value)
+
+-- A text of at most `longest` bytes, in any form
+unfoldable pub spellingAt : List ℕ → ℕ → ℕ → Spelling
+spellingAt stream at longest =
+    let form = numberAt stream at 1 2 in
+    cond (ltb 0 (form .value)) (madeSpelling stream (form .next) (form .value) longest) (plainSpelling stream (form .next) longest)
+
+-- Its length and the place after it; where that is 0 there is no text to read
+unfoldable pub textAt : List ℕ → ℕ → ℕ → Text
+textAt stream at longest = cond (eqb longest 0) (textWith 0 at) (textOf stream (spellingAt stream at longest))
+
+-- It was put into the first bytes of a buffer
+pub record TextRead (stream : List ℕ) (at longest : ℕ) (text : Text) (buffer : List ℕ) : Type 0 where
+  pub is : text ≡ textAt stream at longest
+  pub bytes : Filled (textByte stream (spellingAt stream at longest)) (text .len) buffer

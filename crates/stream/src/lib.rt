@@ -3,10 +3,9 @@
 ghost use mathlib.Core.Path.{_≡_};
 ghost use Prim.Native.Nat.{_≤_};
 ghost use lib.ListN.{length};
-ghost use Rattle.io.specs.Counts.{Counts};
 ghost use Rattle.image.specs.Decode.{number};
 ghost use Rattle.stream.specs.Reading.{Within, partAt, numberAt};
-ghost use Rattle.stream.specs.Texts.{Spelled, spelling};
+ghost use Rattle.stream.specs.Texts.{Spelled, spelling, madeSpelling, TextRead};
 use fillings::put_letters;
 
 // A place past the end of every stream.
@@ -121,7 +120,7 @@ pub fn spell(
 fn made_text(stream: &[u8], at: usize, form: usize, longest: usize, text: &mut [u8]) -> Text
     requires { ⌜ (1 ≤ form) × ((form ≤ 2) × (longest ≤ length (now text))) ⌝ }
     ensures { λ r. ⌜ r .len ≤ longest ⌝ }
-    ensures { λ r. ⌜ Counts (r .len) (now (text .exit)) ⌝ }
+    ensures { λ r. ⌜ Spelled (now (stream .entry)) (madeSpelling (now (stream .entry)) at form longest) r (now (text .exit)) ⌝ }
 {
     let len = read_number(stream, at, 4, longest as u64);
     let seed = read_number(stream, len.next, (form - 1) * 4, 4294967295);
@@ -141,7 +140,7 @@ fn made_text(stream: &[u8], at: usize, form: usize, longest: usize, text: &mut [
 pub fn read_text(stream: &[u8], at: usize, longest: usize, text: &mut [u8]) -> Text
     requires { ⌜ longest ≤ length (now text) ⌝ }
     ensures { λ r. ⌜ r .len ≤ longest ⌝ }
-    ensures { λ r. ⌜ Counts (r .len) (now (text .exit)) ⌝ }
+    ensures { λ r. ⌜ TextRead (now (stream .entry)) at longest r (now (text .exit)) ⌝ }
 {
     if longest == 0 {
         return Text { len: 0, next: at };
