@@ -1,7 +1,11 @@
 -- What the functions that read a case leave their callers to rely on.
+use mathlib.Core.Path.{_≡_}
 use mathlib.Core.List.{List}
 use Prim.Native.Nat.{ℕ, _≤_}
+use lib.ListN.{length, take, drop}
 use Rattle.io.specs.Counts.{Counts}
+use Rattle.stream.specs.Reading.{numberAt}
+use Rattle.cases.specs.declared.Fields.{Fields}
 use Rattle.cases.specs.declared.Shape.{Shape}
 
 -- A kind's arguments: they fit the lent buffers and lists, and its numbers 8 bytes
@@ -18,3 +22,14 @@ pub record Lendable (m : ℕ) (patternBuffer : List ℕ) (n : ℕ) (textBuffer :
   pub pattern : Counts m patternBuffer
   pub text : Counts n textBuffer
   pub list : places ≤ 65537
+
+-- The fields that the bytes of a search write: "64 bytes of pattern, u64 length, u8 k, u8 method, u32 total, 63 bytes of tail, u64 length"
+-- (tools/vectors_stream.py). A number that can't be read is 0; bytes that aren't there are left open, since no case has fewer than all of them.
+pub record FieldsOf (bytes : List ℕ) (f : Fields) : Type 0 where
+  pub pattern : 64 ≤ length bytes → f .pattern ≡ take 64 bytes
+  pub patternLen : f .«pattern_len» ≡ numberAt bytes 64 8 18446744073709551615 .value
+  pub k : f .k ≡ numberAt bytes 72 1 255 .value
+  pub method : f .method ≡ numberAt bytes 73 1 255 .value
+  pub total : f .total ≡ numberAt bytes 74 4 4294967295 .value
+  pub tail : 141 ≤ length bytes → f .tail ≡ take 63 (drop 78 bytes)
+  pub tailLen : f .«tail_len» ≡ numberAt bytes 141 8 18446744073709551615 .value

@@ -2,7 +2,7 @@
 ghost use Prim.Native.Nat.{_≤_};
 ghost use lib.ListN.{length};
 ghost use Rattle.io.specs.Counts.{Counts};
-ghost use Rattle.cases.specs.Cases.{Readable, Lendable};
+ghost use Rattle.cases.specs.Cases.{Readable, Lendable, FieldsOf};
 use stream::NOWHERE;
 use stream::Text;
 use stream::read_number;
@@ -110,7 +110,9 @@ pub fn read_case(stream: &[u8], at: usize, pattern: &mut [u8], text: &mut [u8]) 
 }
 
 // The fields that the text of such a case holds.
-pub fn read_fields(bytes: &[u8]) -> Fields {
+pub fn read_fields(bytes: &[u8]) -> Fields
+    ensures { λ r. ⌜ FieldsOf (now (bytes .entry)) r ⌝ }
+{
     let mut pattern = [0u8; 64];
     let mut tail = [0u8; 63];
     spell(bytes, 0, 64, false, 0, 64, &mut pattern);

@@ -1,17 +1,22 @@
 -- Texts: made of the letters of a part, and in each of their forms.
 use borrow.Author.Tests.{lt-ltb, le-ltb, eq-eqb, ne-eqb}
-use mathlib.Core.Path.{_≡_, ap, _∙_}
+use mathlib.Core.Path.{_≡_, ap, sym, _∙_}
 use mathlib.Core.Bool.{false}
 use mathlib.Core.List.{List}
-use Prim.Native.Nat.{ℕ, _*_, _-_, _≤_, _<_}
+use Prim.Native.Nat.{ℕ, _+_, _*_, _-_, _≤_, _<_}
+use native.Mathlib.Nat.{mod-eq-of-lt}
+use native.Mathlib.Omega.{arith}
 use lib.Dec.{eqb}
+use lib.ListN.{length, getD, take, drop, length-take, length-drop}
+use lib.Seq.{ext-getD}
 use Rattle.fillings.specs.Fillings.{Filled, letterAt, madeLength}
-use Rattle.fillings.proofs.Filling.{filled-none}
+use Rattle.fillings.proofs.Filling.{filled-none, made-all}
 use Rattle.stream.specs.declared.Number.{Number}
 use Rattle.stream.specs.declared.Part.{Part}
 use Rattle.stream.specs.declared.Text.{Text}
 use Rattle.stream.specs.Reading.{nowhere, partAt, bytesIn, numberAt}
 use Rattle.stream.specs.Texts.{Spelling, spelling, letters, textByte, textWith, textOf, Spelled, plainSpelling, madeSpelling, spellingAt, textAt, TextRead}
+use Rattle.stream.proofs.Places.{part-there}
 
 module _
     (stream : List ℕ) (s : Spelling) (buffer : List ℕ) {part : Part} (is : part ≡ partAt stream (s .at) (s .count))
@@ -70,3 +75,27 @@ module _ (stream : List ℕ) (at longest : ℕ) where
       → Spelled stream (plainSpelling stream (form .next) longest) text buffer → TextRead stream at longest text buffer
   unfolding spellingAt
   text-plain {form = form} some e h spelled = text-some some (rw (← e, le-ltb 0 (form .value) h) spelled)
+
+-- ---- a text that is its letters
+
+letter-plain : (letters : List ℕ) (seed i : ℕ) → i < length letters → letterAt letters false seed i ≡ getD letters i 0
+letter-plain letters seed i h = rw (mod-eq-of-lt h)
+
+-- a buffer that is as long as such a text holds the bytes that stand at its place
+pub plain-bytes : (stream : List ℕ) (at n : ℕ) {text : Text} {buffer : List ℕ} → at + n ≤ length stream → length buffer ≡ n
+    → Spelled stream (spelling at n false 0 n) text buffer → buffer ≡ take n (drop at stream)
+unfolding textByte textOf
+plain-bytes stream at n {text} {buffer} there long spelled =
+    let s = spelling at n false 0 n in
+    let bytes = take n (drop at stream) in
+    let few : at + n - at ≡ n = omega arith in
+    let are : letters stream s ≡ bytes =
+    ap (λ (p : Part). bytesIn stream p) (sym (part-there stream at n there)) ∙ ap (λ (k : ℕ). take k (drop at stream)) few
+    in
+    let same : length bytes ≡ n = simp (length-take, length-drop) (omega arith) in
+    let made : text .len ≡ madeLength (letters stream s) n = ap (λ (t : Text). t .len) (spelled .is) in
+    ext-getD 0 buffer bytes (omega arith)
+    (λ i h.
+    let whole : n ≡ madeLength (letters stream s) n = made-all (letters stream s) n (λ none. omega (arith, ap length are)) in
+    spelled .bytes .held i (omega arith)
+    ∙ (ap (λ (l : List ℕ). letterAt l false 0 i) are ∙ letter-plain bytes 0 i (omega arith)))
