@@ -55,12 +55,12 @@ returns c =
     let tail : tie.After-spell2 = first .before .before in
     let pattern : tie.After-spell = tail .before .before .before in
     record {
-      pattern = λ there. plain-bytes _ 0 64 there (search needs) (pattern .spell .ensures .1);
+      pattern = λ there. plain-bytes _ 0 64 there (pattern .spell .kept .1 .1 .1 .1 .1 .1 .0) (pattern .spell .ensures .1);
       patternLen = value (first .read-number .ensures .1);
       k = value (second .read-number2 .ensures .1);
       method = value (third .read-number3 .ensures .1);
       total = value (fourth .read-number4 .ensures .1);
-      tail = λ there. plain-bytes _ 78 63 there (search needs) (tail .spell2 .ensures .1);
+      tail = λ there. plain-bytes _ 78 63 there (tail .spell2 .kept .1 .1 .1 .1 .1 .1 .0) (tail .spell2 .ensures .1);
       tailLen = value (fifth .read-number5 .ensures .1);
     }
 
