@@ -1,7 +1,8 @@
 // The stored cases: their kinds and arguments, read from the stream (tools/vectors_stream.py).
+ghost use mathlib.Core.Path.{_≡_};
 ghost use Prim.Native.Nat.{_≤_};
 ghost use lib.ListN.{length};
-ghost use Rattle.io.specs.Counts.{Counts};
+ghost use Rattle.cases.specs.Arguments.{shapeOf, Searched, CaseRead, kindAt};
 ghost use Rattle.cases.specs.Cases.{Readable, Lendable, FieldsOf};
 use stream::NOWHERE;
 use stream::Text;
@@ -45,6 +46,7 @@ pub struct Fields {
 // The arguments of each kind. Patterns, texts and lists may be longer than the calls take, so that they can be refused.
 fn shape_of(op: u8) -> Shape
     ensures { λ r. ⌜ Readable r ⌝ }
+    ensures { λ r. ⌜ r ≡ shapeOf op ⌝ }
 {
     match op {
         // whole search, open, feed
@@ -66,7 +68,7 @@ fn shape_of(op: u8) -> Shape
 // The text of a case; a search filled in by hand is one of so many bytes.
 fn read_searched(stream: &[u8], at: usize, op: u8, longest: usize, text: &mut [u8]) -> Text
     requires { ⌜ (longest ≤ length (now text)) × (149 ≤ length (now text)) ⌝ }
-    ensures { λ r. ⌜ Counts (r .len) (now (text .exit)) ⌝ }
+    ensures { λ r. ⌜ Searched (now (stream .entry)) at op longest r (now (text .exit)) ⌝ }
 {
     if op == HAND {
         return spell(stream, at, SEARCH_BYTES, false, 0, SEARCH_BYTES, text);
@@ -78,6 +80,7 @@ fn read_searched(stream: &[u8], at: usize, op: u8, longest: usize, text: &mut [u
 fn read_arguments(stream: &[u8], at: usize, op: u8, pattern: &mut [u8], text: &mut [u8]) -> Case
     requires { ⌜ (300 ≤ length (now pattern)) × (65537 ≤ length (now text)) ⌝ }
     ensures { λ r. ⌜ Lendable (r .pattern) (now (pattern .exit)) (r .text) (now (text .exit)) (r .places) ⌝ }
+    ensures { λ r. ⌜ CaseRead (now (stream .entry)) at op r (now (pattern .exit)) (now (text .exit)) ⌝ }
 {
     let shape = shape_of(op);
     let sought = read_text(stream, at, shape.0, pattern);
@@ -100,6 +103,7 @@ fn read_arguments(stream: &[u8], at: usize, op: u8, pattern: &mut [u8], text: &m
 pub fn read_case(stream: &[u8], at: usize, pattern: &mut [u8], text: &mut [u8]) -> Case
     requires { ⌜ (300 ≤ length (now pattern)) × (65537 ≤ length (now text)) ⌝ }
     ensures { λ r. ⌜ Lendable (r .pattern) (now (pattern .exit)) (r .text) (now (text .exit)) (r .places) ⌝ }
+    ensures { λ r. ⌜ CaseRead (now (stream .entry)) (kindAt (now (stream .entry)) at .next) (kindAt (now (stream .entry)) at .value) r (now (pattern .exit)) (now (text .exit)) ⌝ }
 {
     let number = read_number(stream, at, 1, 10);
     let op = number.value as u8;

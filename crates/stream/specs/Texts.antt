@@ -27,6 +27,10 @@ letters stream s = bytesAt stream (s .at) (s .count)
 unfoldable pub textByte : List ℕ → Spelling → ℕ → ℕ
 textByte stream s i = letterAt (letters stream s) (s .picked) (s .seed) i
 
+-- The first `len` bytes of a buffer are the text's
+abbrev pub HoldsText : List ℕ → Spelling → ℕ → List ℕ → Type 0
+HoldsText stream s len buffer = Filled (textByte stream s) len buffer
+
 -- A text's length, and the place after it
 abbrev pub textWith : ℕ → ℕ → Text
 textWith len next = record { len = len; next = next }
@@ -40,7 +44,7 @@ textOf stream s =
 -- The text that is spelled so was put into the first bytes of a buffer
 pub record Spelled (stream : List ℕ) (s : Spelling) (text : Text) (buffer : List ℕ) : Type 0 where
   pub is : text ≡ textOf stream s
-  pub bytes : Filled (textByte stream s) (text .len) buffer
+  pub bytes : HoldsText stream s (text .len) buffer
 
 -- The three forms of a text, after the byte that says which. The form 0: "u16 length, the bytes"
 unfoldable pub plainSpelling : List ℕ → ℕ → ℕ → Spelling
@@ -69,4 +73,4 @@ textAt stream at longest = cond (eqb longest 0) (textWith 0 at) (textOf stream (
 -- It was put into the first bytes of a buffer
 pub record TextRead (stream : List ℕ) (at longest : ℕ) (text : Text) (buffer : List ℕ) : Type 0 where
   pub is : text ≡ textAt stream at longest
-  pub bytes : Filled (textByte stream (spellingAt stream at longest)) (text .len) buffer
+  pub bytes : HoldsText stream (spellingAt stream at longest) (text .len) buffer

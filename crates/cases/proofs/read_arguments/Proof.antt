@@ -1,6 +1,7 @@
 -- `cases::read_arguments` meets its contract: the number read last is bounded by what its kind says at first.
 use native.Mathlib.Omega.{arith}
 use borrow.Author.Needs.{needs}
+use Rattle.cases.proofs.Arguments.{case-read}
 use Rattle.cases.proofs.read_arguments.Statement.{statement}
 use Rattle.cases.proofs.read_arguments.Tie as tie
 
@@ -36,9 +37,15 @@ same-length-2 c = search needs
 
 returns : tie.Need-returns
 returns c =
-    let searched : tie.After-read-searched = c .before .before .before .before .before in
-    let sought : tie.After-read-text = searched .before .before .before .before .before .before in
-    record { pattern = search needs; text = search needs; list = omega (arith, sought) }
+    let places : tie.After-read-number3 = c .before .before in
+    let searched : tie.After-read-searched = places .before .before .before in
+    let method : tie.After-read-number2 = searched .before .before in
+    let sought : tie.After-read-text = method .before .before .before .before in
+    let shape = sought .before .before in (
+      record { pattern = search needs; text = search needs; list = omega (arith, sought) },
+      case-read _ _ _ (shape .shape-of .ensures .1) (sought .read-text .ensures .1) (method .before .read-number .ensures .1)
+          (method .read-number2 .ensures .1) (searched .read-searched .ensures) (places .read-number3 .ensures .1),
+    )
 
 pub read-arguments-spec : {M : Type 1} → statement M
 read-arguments-spec =
