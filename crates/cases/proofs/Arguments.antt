@@ -10,7 +10,7 @@ use Rattle.stream.specs.Reading.{nowhere, numberAt}
 use Rattle.stream.specs.Texts.{spelling, Spelled, TextRead}
 use Rattle.cases.specs.declared.Case.{Case}
 use Rattle.cases.specs.declared.Shape.{Shape}
-use Rattle.cases.specs.Arguments.{shapeOf, searchedSpelling, searchedAt, Searched, methodAt, caseAt, CaseRead, kindAt}
+use Rattle.cases.specs.Arguments.{shapeOf, searchedSpelling, searchedAt, Searched, methodAt, caseAt, CaseRead, kindAt, StoredCase}
 
 module _ (stream : List ℕ) (at op longest : ℕ) {text : Text} {buffer : List ℕ} where
   pub searched-hand : op ≡ 7 → Spelled stream (spelling at 149 false 0 149) text buffer → Searched stream at op longest text buffer
@@ -41,13 +41,15 @@ case-read stream at op es sought ek em searched ep =
       text = rw (em, ek, sought .is, es) at (searched .bytes);
     }
 
-module _ (stream : List ℕ) (at : ℕ) {number : Number} {case : Case} {patternBuffer textBuffer : List ℕ} (is : number ≡ numberAt stream at 1 10) where
+module _
+    (stream : List ℕ) (at : ℕ) {number : Number} {case : Case} {patternBuffer textBuffer : List ℕ}
+    (is : number ≡ numberAt stream at 1 10) where
   pub kind-none : number .value ≡ 0 → CaseRead stream nowhere (number .value) case patternBuffer textBuffer
-      → CaseRead stream (kindAt stream at .next) (kindAt stream at .value) case patternBuffer textBuffer
+      → StoredCase stream at case patternBuffer textBuffer
   unfolding kindAt
   kind-none none read = rw (← is, eq-eqb (number .value) 0 none) (rw none at read)
 
   pub kind-some : (number .value ≡ 0 → ⊥) → CaseRead stream (number .next) (number .value) case patternBuffer textBuffer
-      → CaseRead stream (kindAt stream at .next) (kindAt stream at .value) case patternBuffer textBuffer
+      → StoredCase stream at case patternBuffer textBuffer
   unfolding kindAt
   kind-some some read = rw (← is, ne-eqb (number .value) 0 some) read

@@ -29,14 +29,15 @@ shapeOf op =
     (cond (eqb op 10) (shape 64 0 0 0 0 0)
     (shape 0 0 0 0 0 0)))))))))
 
--- The text of a case, at its place: of the kind 7 it is a search's 149 bytes, as they stand there
+-- The text of a case, at its place: of the kind 7 it is a search's 149 bytes, as they stand there. How it is spelled; its length and the place
+-- after it
 unfoldable pub searchedSpelling : List ℕ → ℕ → ℕ → ℕ → Spelling
 searchedSpelling stream at op longest = cond (eqb op 7) (spelling at 149 false 0 149) (spellingAt stream at longest)
 
 unfoldable pub searchedAt : List ℕ → ℕ → ℕ → ℕ → Text
 searchedAt stream at op longest = cond (eqb op 7) (textOf stream (spelling at 149 false 0 149)) (textAt stream at longest)
 
--- It was put into the first bytes of a buffer
+-- That text was put into the first bytes of a buffer
 pub record Searched (stream : List ℕ) (at op longest : ℕ) (text : Text) (buffer : List ℕ) : Type 0 where
   pub is : text ≡ searchedAt stream at op longest
   pub bytes : HoldsText stream (searchedSpelling stream at op longest) (text .len) buffer
@@ -67,7 +68,7 @@ caseAt stream at op =
       next = places .next;
     }
 
--- It was read, and its pattern and its text were put into the first bytes of buffers
+-- That case was read, and its pattern and its text were put into the first bytes of buffers
 pub record CaseRead (stream : List ℕ) (at op : ℕ) (case : Case) (patternBuffer textBuffer : List ℕ) : Type 0 where
   pub is : case ≡ caseAt stream at op
   pub pattern : HoldsText stream (spellingAt stream at (shapeOf op .0)) (case .pattern) patternBuffer
@@ -78,3 +79,7 @@ unfoldable pub kindAt : List ℕ → ℕ → Number
 kindAt stream at =
     let kind = numberAt stream at 1 10 in
     cond (eqb (kind .value) 0) (numberWith 0 nowhere) kind
+
+-- The case at a place was read: its kind, and then its arguments
+abbrev pub StoredCase : List ℕ → ℕ → Case → List ℕ → List ℕ → Type 0
+StoredCase stream at case patternBuffer textBuffer = CaseRead stream (kindAt stream at .next) (kindAt stream at .value) case patternBuffer textBuffer

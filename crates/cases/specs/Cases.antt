@@ -24,7 +24,8 @@ pub record Lendable (m : ℕ) (patternBuffer : List ℕ) (n : ℕ) (textBuffer :
   pub list : places ≤ 65537
 
 -- The fields that the bytes of a search write: "64 bytes of pattern, u64 length, u8 k, u8 method, u32 total, 63 bytes of tail, u64 length"
--- (tools/vectors_stream.py). A number that can't be read is 0; bytes that aren't there are left open, since no case has fewer than all of them.
+-- (tools/vectors_stream.py). A number that can't be read is 0; an array whose bytes aren't all there is left open, since a case that can be
+-- read has all 149.
 pub record FieldsOf (bytes : List ℕ) (f : Fields) : Type 0 where
   pub pattern : 64 ≤ length bytes → f .pattern ≡ take 64 bytes
   pub patternLen : f .«pattern_len» ≡ numberAt bytes 64 8 18446744073709551615 .value

@@ -2,7 +2,7 @@
 ghost use mathlib.Core.Path.{_≡_};
 ghost use Prim.Native.Nat.{_≤_};
 ghost use lib.ListN.{length};
-ghost use Rattle.cases.specs.Arguments.{shapeOf, Searched, CaseRead, kindAt};
+ghost use Rattle.cases.specs.Arguments.{shapeOf, Searched, CaseRead, StoredCase};
 ghost use Rattle.cases.specs.Cases.{Readable, Lendable, FieldsOf};
 use stream::NOWHERE;
 use stream::Text;
@@ -103,7 +103,7 @@ fn read_arguments(stream: &[u8], at: usize, op: u8, pattern: &mut [u8], text: &m
 pub fn read_case(stream: &[u8], at: usize, pattern: &mut [u8], text: &mut [u8]) -> Case
     requires { ⌜ (300 ≤ length (now pattern)) × (65537 ≤ length (now text)) ⌝ }
     ensures { λ r. ⌜ Lendable (r .pattern) (now (pattern .exit)) (r .text) (now (text .exit)) (r .places) ⌝ }
-    ensures { λ r. ⌜ CaseRead (now (stream .entry)) (kindAt (now (stream .entry)) at .next) (kindAt (now (stream .entry)) at .value) r (now (pattern .exit)) (now (text .exit)) ⌝ }
+    ensures { λ r. ⌜ StoredCase (now (stream .entry)) at r (now (pattern .exit)) (now (text .exit)) ⌝ }
 {
     let number = read_number(stream, at, 1, 10);
     let op = number.value as u8;

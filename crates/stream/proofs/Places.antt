@@ -16,7 +16,9 @@ pub part-short : (stream : List ℕ) (at count : ℕ) → length stream < at + c
 unfolding partAt
 part-short stream at count h = rw (lt-ltb (length stream) (at + count) h)
 
-module _ (stream : List ℕ) (at width : ℕ) {part : Part} (is : part ≡ partAt stream at width) {value : ℕ} (written : value ≡ number (bytesIn stream part)) where
+module _
+    (stream : List ℕ) (at width : ℕ) {part : Part} (is : part ≡ partAt stream at width)
+    {value : ℕ} (written : value ≡ number (bytesIn stream part)) where
   -- what the bytes write, put as the part says where they stand
   found : value ≡ number (bytesAt stream at width)
   found = written ∙ ap (λ (p : Part). number (bytesIn stream p)) is

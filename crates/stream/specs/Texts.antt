@@ -1,4 +1,4 @@
--- Texts, as letters that the stream has spell them (tools/vectors_stream.py).
+-- Texts: the letters in the stream that spell them, and their three forms (tools/vectors_stream.py).
 use mathlib.Core.Path.{_≡_}
 use mathlib.Core.Bool.{Bool, false, cond}
 use mathlib.Core.List.{List}
@@ -66,11 +66,11 @@ spellingAt stream at longest =
     let form = numberAt stream at 1 2 in
     cond (ltb 0 (form .value)) (madeSpelling stream (form .next) (form .value) longest) (plainSpelling stream (form .next) longest)
 
--- Its length and the place after it; where that is 0 there is no text to read
+-- Its length and the place after it; where `longest` is 0 there is no text to read
 unfoldable pub textAt : List ℕ → ℕ → ℕ → Text
 textAt stream at longest = cond (eqb longest 0) (textWith 0 at) (textOf stream (spellingAt stream at longest))
 
--- It was put into the first bytes of a buffer
+-- That text was put into the first bytes of a buffer
 pub record TextRead (stream : List ℕ) (at longest : ℕ) (text : Text) (buffer : List ℕ) : Type 0 where
   pub is : text ≡ textAt stream at longest
   pub bytes : HoldsText stream (spellingAt stream at longest) (text .len) buffer

@@ -42,7 +42,8 @@ returns-2 c =
     let second = third .before in
     let first = second .before in
     let stored = first .before .before .before .args .stored in
-    chained _ _ stored (not-false stored (first .before .if1 .left)) (first .read-number .ensures .1) (second .read-number2 .ensures .1) (third .read-number3 .ensures .1) (c .read-number4 .ensures .1)
+    chained _ _ stored (not-false stored (first .before .if1 .left)) (first .read-number .ensures .1)
+    (second .read-number2 .ensures .1) (third .read-number3 .ensures .1) (c .read-number4 .ensures .1)
 
 pub read-outcome-spec : {M : Type 1} → statement M
 read-outcome-spec =
