@@ -51,7 +51,8 @@ module _ (P : List ℕ) (k q : ℕ) (stop : List ℕ → Bool) (exact : Exact P 
       tells : stop (group ++ R) ≡ ltb k (excess P (group ++ R))
       tells = exact .tells (group ++ R) bytes-read (omega (arith, excess-append P group R bytes-group))
 
-      at : m - length (group ++ R) ≡ length left
+      -- the bytes left of the stop are those that are not read
+      at : stopped m (group ++ R) .offset ≡ length left
       at = omega (arith, ap length regroup, length-append left (group ++ R))
 
       over : k < excess P (group ++ R) → Right P k (left ++ group ++ R) (stopped m (group ++ R))
