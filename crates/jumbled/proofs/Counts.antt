@@ -10,7 +10,7 @@ use lib.Dec.{eqb, leb}
 use lib.ListN.{length, getD, take, drop, take-append-drop}
 use lib.Seq.{take-append-seam, drop-append-seam}
 use borrow.Author.Tests.{ne-eqb, eqb-true, le-leb, lt-leb}
-use Rattle.jumbled.specs.Match.{Bytes, bit, cc, sum, excess}
+use Rattle.jumbled.specs.Match.{Bytes, bit, cc, sum, usedUp, excess}
 use Rattle.jumbled.proofs.Sums.{below-or-not, sum-zeros, sum-ext, sum-mono, sum-add, sum-at, sum-same, sum-point}
 
 -- ---- bytes
@@ -18,7 +18,7 @@ use Rattle.jumbled.proofs.Sums.{below-or-not, sum-zeros, sum-ext, sum-m
 pub bytes-nil : Bytes []
 bytes-nil = record { below = λ i. omega arith }
 
-pub bytes-cons : {b : ℕ} {U : List ℕ} → b < 256 → Bytes U → Bytes (b ∷ U)
+bytes-cons : {b : ℕ} {U : List ℕ} → b < 256 → Bytes U → Bytes (b ∷ U)
 bytes-cons {b} {U} h hs = record { below = at }
   where
     at : (i : ℕ) → getD (b ∷ U) i 0 < 256
@@ -90,7 +90,7 @@ cc-out (b ∷ U) c h l =
     rw (ne-eqb b c (λ e. omega arith), cc-out U c (bytes-tail h) l) refl
 
 -- the counts of all bytes add up to the length
-pub cc-total : (U : List ℕ) → Bytes U → sum 256 (cc U) ≡ length U
+cc-total : (U : List ℕ) → Bytes U → sum 256 (cc U) ≡ length U
 cc-total [] h = sum-zeros 256 (cc []) cc-nil
 cc-total (b ∷ U) h =
     sum-ext 256 (cc (b ∷ U)) (λ c. bit (eqb b c) + cc U c) (λ c l. cc-cons b U c)
@@ -109,9 +109,23 @@ pub excess-mono : (P U W : List ℕ) → ((c : ℕ) → cc U c ≤ cc W c) → e
 unfolding excess
 excess-mono P U W h = sum-mono 256 (λ c. cc U c - cc P c) (λ c. cc W c - cc P c) (λ c l. omega (arith, h c))
 
--- a byte more adds 1 where P's share of it was used up before
-pub excess-cons : (P : List ℕ) (b : ℕ) (R : List ℕ) → b < 256 → excess P (b ∷ R) ≡ excess P R + bit (leb (cc P b) (cc R b))
-unfolding excess
+-- what P allows of a byte is used up, and is not
+pub used-up : (P R : List ℕ) (b : ℕ) → cc P b ≤ cc R b → usedUp P R b ≡ true
+unfolding usedUp
+used-up P R b l = le-leb (cc P b) (cc R b) l
+
+pub not-used-up : (P R : List ℕ) (b : ℕ) → cc R b < cc P b → usedUp P R b ≡ false
+unfolding usedUp
+not-used-up P R b l = lt-leb (cc P b) (cc R b) l
+
+-- by the counts
+pub used-up-test : (P R : List ℕ) (b : ℕ) → usedUp P R b ≡ leb (cc P b) (cc R b)
+unfolding usedUp
+used-up-test P R b = refl
+
+-- a byte more adds 1 where what P allows of it was used up before
+pub excess-cons : (P : List ℕ) (b : ℕ) (R : List ℕ) → b < 256 → excess P (b ∷ R) ≡ excess P R + bit (usedUp P R b)
+unfolding excess usedUp
 excess-cons P b R h =
     sum-ext 256 (λ c. cc (b ∷ R) c - cc P c) (λ c. (cc R c - cc P c) + cond (eqb b c) (bit (leb (cc P b) (cc R b))) 0) (λ c l. at c)
     ∙ sum-add 256 (λ c. cc R c - cc P c) (λ c. cond (eqb b c) (bit (leb (cc P b) (cc R b))) 0)
@@ -133,12 +147,12 @@ pub excess-append : (P A R : List ℕ) → Bytes A → excess P (A ++ R) ≤ len
 excess-append P [] R h = omega arith
 excess-append P (b ∷ A) R h =
     let ih = excess-append P A R (bytes-tail h) in
-    omega (arith, excess-cons P b (A ++ R) (bytes-head h), bit-le (leb (cc P b) (cc (A ++ R) b)))
+    omega (arith, excess-cons P b (A ++ R) (bytes-head h), bit-le (usedUp P (A ++ R) b))
 
 pub excess-left : (P A R : List ℕ) → excess P R ≤ excess P (A ++ R)
 excess-left P A R = excess-mono P R (A ++ R) (λ c. omega (arith, cc-append A R c))
 
--- the surplus of one byte is part of the excess
+-- the excess of one byte is part of the whole
 pub excess-at : (P R : List ℕ) (c : ℕ) → c < 256 → cc R c - cc P c ≤ excess P R
 unfolding excess
 excess-at P R c h = sum-at 256 (λ d. cc R d - cc P d) c h

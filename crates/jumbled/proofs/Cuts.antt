@@ -1,29 +1,34 @@
--- A driver may be cut at any window start, and depends on its windows' bytes alone: what a search that goes on from piece to piece rests on.
+-- A driver may be cut at any window start, and depends on its windows' bytes alone: what a search that goes on from chunk to chunk rests on.
 use mathlib.Core.Path.{_≡_, refl, sym, ap, _∙_}
 use mathlib.Core.Bool.{Bool, true, false}
 use mathlib.Core.List.{List, [], _∷_, _++_, map}
+use mathlib.Core.Logic.{⊎-elim}
 use Prim.Native.Nat.{ℕ, zero, suc, _+_, _-_, _*_, _≤_, _<_, suc-le-suc}
 use native.Mathlib.Nat.{le-refl, mul-suc, le-step, add-zero, add-suc, suc-add, add-assoc, zero-add, suc-sub-suc, zero-sub, sub-zero}
 use native.Mathlib.Omega.{arith}
-use lib.ListN.{length, drop, length-take}
+use lib.Dec.{ltb}
+use lib.ListN.{length, getD, drop, length-take, length-append}
+use lib.Seq.{getD-at}
+use borrow.Author.Tests.{lt-ltb, le-ltb}
 use Rattle.jumbled.specs.Match.{window}
-use Rattle.jumbled.specs.Scan.{Result, nothing, note, Scanned, backward, standing, Judged, forward}
+use Rattle.jumbled.specs.Scan.{Result, nothing, note, Scanned, backward, standing, Judged, forward, through}
+use Rattle.jumbled.proofs.Sums.{below-or-not}
 
 infixl 20 _then_
--- what two stretches of window starts yield together
+-- what two ranges of window starts yield together
 abbrev pub _then_ : Result → Result → Result
-a then b = record { positions = a .positions ++ b .positions; inspections = a .inspections + b .inspections }
+a then b = record { occurrences = a .occurrences ++ b .occurrences; inspections = a .inspections + b .inspections }
 
 -- positions with a number added to each
 abbrev pub moved : ℕ → Result → Result
-moved d r = record { positions = map (λ p. d + p) (r .positions); inspections = r .inspections }
+moved d r = record { occurrences = map (λ p. d + p) (r .occurrences); inspections = r .inspections }
 
 note-then : (t : Bool) (s taken : ℕ) (a b : Result) → note t s taken (a then b) ≡ note t s taken a then b
-note-then true s taken a b = ap (λ (n : ℕ). record { positions = s ∷ (a .positions ++ b .positions); inspections = n }) (sym (add-assoc taken (a .inspections) (b .inspections)))
-note-then false s taken a b = ap (λ (n : ℕ). record { positions = a .positions ++ b .positions; inspections = n }) (sym (add-assoc taken (a .inspections) (b .inspections)))
+note-then true s taken a b = ap (λ (n : ℕ). record { occurrences = s ∷ (a .occurrences ++ b .occurrences); inspections = n }) (sym (add-assoc taken (a .inspections) (b .inspections)))
+note-then false s taken a b = ap (λ (n : ℕ). record { occurrences = a .occurrences ++ b .occurrences; inspections = n }) (sym (add-assoc taken (a .inspections) (b .inspections)))
 
-pub nothing-then : (r : Result) → nothing then r ≡ r
-nothing-then r = ap (λ (n : ℕ). record { positions = r .positions; inspections = n }) (zero-add (r .inspections))
+nothing-then : (r : Result) → nothing then r ≡ r
+nothing-then r = ap (λ (n : ℕ). record { occurrences = r .occurrences; inspections = n }) (zero-add (r .inspections))
 
 module _ (scanned : List ℕ → Scanned) (m : ℕ) (T : List ℕ) where
   pub standing-cut : (s a b skip : ℕ) → standing scanned m T s (a + b) skip ≡ standing scanned m T (s + a) b (standing scanned m T s a skip)
@@ -50,7 +55,7 @@ module _ (scanned : List ℕ → Scanned) (m : ℕ) (T : List ℕ) where
   backward-skip s (suc left) zero = rw (add-zero s, sub-zero (suc left)) refl
   backward-skip s (suc left) (suc skip) = rw (suc-sub-suc left skip, add-suc s skip, ← suc-add s skip) (backward-skip (suc s) left skip)
 
-  pub standing-skip : (s left skip : ℕ) → standing scanned m T s left skip ≡ standing scanned m T (s + skip) (left - skip) (skip - left)
+  standing-skip : (s left skip : ℕ) → standing scanned m T s left skip ≡ standing scanned m T (s + skip) (left - skip) (skip - left)
   unfolding standing
   standing-skip s zero skip = rw (zero-sub skip, sub-zero skip) refl
   standing-skip s (suc left) zero = rw (add-zero s, sub-zero (suc left), zero-sub (suc left)) refl
@@ -76,24 +81,74 @@ module _ (scanned : List ℕ → Scanned) (m : ℕ) (T : List ℕ) where
 
 -- ---- at most one position a window start
 
-note-count : (t : Bool) (s taken left : ℕ) (r : Result) → length (r .positions) ≤ left → length (note t s taken r .positions) ≤ suc left
-note-count true s taken left r h = suc-le-suc h
-note-count false s taken left r h = le-step h
+-- Ascending numbers from s on, all of them below s + left
+pub data Within : ℕ → ℕ → List ℕ → Type 0 where
+  none : {s left : ℕ} → Within s left []
+  here : {s left : ℕ} {more : List ℕ} → Within (suc s) left more → Within s (suc left) (s ∷ more)
+  later : {s left : ℕ} {more : List ℕ} → Within (suc s) left more → Within s (suc left) more
 
-pub backward-count : (scanned : List ℕ → Scanned) (m : ℕ) (T : List ℕ) (s left skip : ℕ) → length (backward scanned m T s left skip .positions) ≤ left
+note-within : (t : Bool) {s left : ℕ} (taken : ℕ) (r : Result) → Within (suc s) left (r .occurrences) → Within s (suc left) (note t s taken r .occurrences)
+note-within true taken r h = here h
+note-within false taken r h = later h
+
+pub backward-within : (scanned : List ℕ → Scanned) (m : ℕ) (T : List ℕ) (s left skip : ℕ) → Within s left (backward scanned m T s left skip .occurrences)
 unfolding backward
-backward-count scanned m T s zero skip = le-refl 0
-backward-count scanned m T s (suc left) (suc skip) = le-step (backward-count scanned m T (suc s) left skip)
-backward-count scanned m T s (suc left) zero =
+backward-within scanned m T s zero skip = none
+backward-within scanned m T s (suc left) (suc skip) = later (backward-within scanned m T (suc s) left skip)
+backward-within scanned m T s (suc left) zero =
     let w : Scanned = scanned (window m T s) in
-    note-count (w .listed) s (w .inspections) left (backward scanned m T (suc s) left (w .offset)) (backward-count scanned m T (suc s) left (w .offset))
+    note-within (w .listed) (w .inspections) (backward scanned m T (suc s) left (w .offset)) (backward-within scanned m T (suc s) left (w .offset))
 
-pub forward-count : (judged : List ℕ → Judged) (m : ℕ) (T : List ℕ) (s left cost : ℕ) → length (forward judged m T s left cost .positions) ≤ left
+pub forward-within : (judged : List ℕ → Judged) (m : ℕ) (T : List ℕ) (s left cost : ℕ) → Within s left (forward judged m T s left cost .occurrences)
 unfolding forward
-forward-count judged m T s zero cost = le-refl 0
-forward-count judged m T s (suc left) cost =
+forward-within judged m T s zero cost = none
+forward-within judged m T s (suc left) cost =
     let w : Judged = judged (window m T s) in
-    note-count (w .listed) s (cost + w .verification) left (forward judged m T (suc s) left 1) (forward-count judged m T (suc s) left 1)
+    note-within (w .listed) (cost + w .verification) (forward judged m T (suc s) left 1) (forward-within judged m T (suc s) left 1)
+
+within-count : {s left : ℕ} {l : List ℕ} → Within s left l → length l ≤ left
+within-count none = omega arith
+within-count (here h) = suc-le-suc (within-count h)
+within-count (later h) = le-step (within-count h)
+
+pub backward-count : (scanned : List ℕ → Scanned) (m : ℕ) (T : List ℕ) (s left skip : ℕ) → length (backward scanned m T s left skip .occurrences) ≤ left
+backward-count scanned m T s left skip = within-count (backward-within scanned m T s left skip)
+
+pub forward-count : (judged : List ℕ → Judged) (m : ℕ) (T : List ℕ) (s left cost : ℕ) → length (forward judged m T s left cost .occurrences) ≤ left
+forward-count judged m T s left cost = within-count (forward-within judged m T s left cost)
+
+-- ---- a search that ends where its places are full
+
+-- the number at a place is at least as far from s as the place, and below the end
+within-least : {s left : ℕ} {l : List ℕ} → Within s left l → (i : ℕ) → i < length l → (s + i ≤ getD l i 0) × (getD l i 0 < s + left)
+within-least none i h = absurd (omega arith)
+within-least (here h) zero l = (omega arith, omega arith)
+within-least (here h) (suc i) l = let later = within-least h i (omega arith) in (omega (arith, later .0), omega (arith, later .1))
+within-least (later h) i l = let later = within-least h i l in (omega (arith, later .0), omega (arith, later .1))
+
+-- a place stays free
+pub through-free : (places s left : ℕ) (l : List ℕ) → length l < places → through places s left l ≡ left
+unfolding through
+through-free zero s left l h = absurd (omega arith)
+through-free (suc places) s left l h = rw (le-ltb places (length l) (omega arith)) refl
+
+-- there is a place for every window start
+pub through-room : {s left : ℕ} {l : List ℕ} → Within s left l → (places : ℕ) → left ≤ places → through places s left l ≡ left
+unfolding through
+through-room {s} {left} {l} h zero room = omega arith
+through-room {s} {left} {l} h (suc places) room =
+    ⊎-elim
+    (λ (full : places < length l).
+    let last = within-least h places full in
+    rw (lt-ltb places (length l) full) (omega (arith, last .0, last .1, within-count h))) (λ (free : length l ≤ places). rw (le-ltb places (length l) free) refl)
+    (below-or-not places (length l))
+
+-- the window at p takes the last place
+pub through-last : (before : List ℕ) (p : ℕ) (after l : List ℕ) (s left places : ℕ) → l ≡ before ++ (p ∷ after) → places ≡ suc (length before)
+    → through places s left l ≡ suc p - s
+unfolding through
+through-last before p after l s left places e q =
+    rw (q, e, lt-ltb (length before) (length (before ++ (p ∷ after))) (omega (arith, length-append before (p ∷ after))), getD-at before p after 0 (length before) refl) refl
 
 -- ---- bounds on the inspections
 
@@ -173,7 +228,7 @@ module _ (judged : List ℕ → Judged) (m : ℕ) (T : List ℕ) where
 
   -- the first window's inspections but the last may be made before
   pub forward-primed : (s left cost : ℕ) → 0 < left
-      → forward judged m T s left (cost + 1) ≡ record { positions = []; inspections = cost } then forward judged m T s left 1
+      → forward judged m T s left (cost + 1) ≡ record { occurrences = []; inspections = cost } then forward judged m T s left 1
   unfolding forward
   forward-primed s (suc left) cost h =
       let w : Judged = judged (window m T s) in

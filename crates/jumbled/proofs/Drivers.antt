@@ -24,7 +24,7 @@ cc-shifted (suc d) (suc m) (x ∷ X) c =
     (rw (take-take m (suc m) (drop d X) (omega arith)) at (cc-take m (take (suc m) (drop d X)) c))
 
 -- so a part of the window that has an excess over k lies in every window from s + 1 up to the one that starts with the part
-pub part-excess : (P X : List ℕ) (m j d : ℕ) → d ≤ j → excess P (drop j (take m X)) ≤ excess P (take m (drop d X))
+part-excess : (P X : List ℕ) (m j d : ℕ) → d ≤ j → excess P (drop j (take m X)) ≤ excess P (take m (drop d X))
 part-excess P X m j d l =
     excess-mono P (drop j (take m X)) (take m (drop d X)) (λ c. le-trans (inner c) (cc-shifted d m X c))
   where
@@ -35,7 +35,7 @@ part-excess P X m j d l =
     inner c = rw cut at (cc-drop (j - d) (drop d (take m X)) c)
 
 -- every window start's window has m bytes
-pub window-length : (m : ℕ) (T : List ℕ) (s : ℕ) → s < starts m T → length (window m T s) ≡ m
+window-length : (m : ℕ) (T : List ℕ) (s : ℕ) → s < starts m T → length (window m T s) ≡ m
 window-length m T s h = omega (arith, length-take m (drop s T), length-drop s T)
 
 -- ---- the theorems
@@ -73,7 +73,7 @@ module _ (P : List ℕ) (k : ℕ) (T : List ℕ) (bytes : Bytes T) where
 
   pub backward-lists : (scanned : List ℕ → Scanned) → Sound P k scanned → (s left skip : ℕ) → s + left ≤ starts (length P) T
       → ((d : ℕ) → d < skip → matchesAt P k T (s + d) ≡ false)
-      → backward scanned (length P) T s left skip .positions ≡ select (matchesAt P k T) s left
+      → backward scanned (length P) T s left skip .occurrences ≡ select (matchesAt P k T) s left
   unfolding backward select listedIf
   backward-lists scanned sound s zero skip h none = refl
   backward-lists scanned sound s (suc left) (suc skip) h none =
@@ -87,7 +87,7 @@ module _ (P : List ℕ) (k : ℕ) (T : List ℕ) (bytes : Bytes T) where
   pub forward-lists : (judged : List ℕ → Judged)
       → ((W : List ℕ) → Bytes W → length W ≡ length P → judged W .listed ≡ matches P k W)
       → (s left cost : ℕ) → s + left ≤ starts (length P) T
-      → forward judged (length P) T s left cost .positions ≡ select (matchesAt P k T) s left
+      → forward judged (length P) T s left cost .occurrences ≡ select (matchesAt P k T) s left
   unfolding forward select listedIf
   forward-lists judged sound s zero cost h = refl
   forward-lists judged sound s (suc left) cost h =

@@ -12,7 +12,7 @@ use lib.Arith.{digits-lt, digits-div, digits-mod}
 use lib.ListN.{length}
 use borrow.Author.Tests.{eqb-true, eqb-false, leb-true, le-leb, lt-leb}
 use Rattle.jumbled.specs.Match.{Bytes, bit, cc, sum, excess, matches}
-use Rattle.jumbled.specs.Heap.{rank, base, heapValue, heapSum, exact}
+use Rattle.jumbled.specs.Heap.{rank, radix, heapValue, heapSum, exact}
 use Rattle.jumbled.specs.Scan.{Judged, unverified}
 use Rattle.jumbled.specs.Steps.{hcamJudged}
 use Rattle.jumbled.proofs.Sums.{below-or-not, sum-zero, sum-suc, sum-ext, sum-add, sum-zeros, sum-point}
@@ -83,41 +83,41 @@ place-same d e w u place hw hu q =
       sym (digits-mod d hw) ∙ ap (λ (n : ℕ). n % place) turned ∙ digits-mod e hu,
     )
 
-module _ (P : List ℕ) (fits : base P ^ rank P 256 ≤ 2 ^ 64) where
-  base-step : (e : ℕ) → base P ^ suc e ≡ base P * base P ^ e
-  base-step e = pow-succ' (base P) e
+module _ (P : List ℕ) (fits : radix P ^ rank P 256 ≤ 2 ^ 64) where
+  base-step : (e : ℕ) → radix P ^ suc e ≡ radix P * radix P ^ e
+  base-step e = pow-succ' (radix P) e
 
-  base-pos : (e : ℕ) → 0 < base P ^ e
-  base-pos e = one-le-pow e (base P) (omega arith)
+  base-pos : (e : ℕ) → 0 < radix P ^ e
+  base-pos e = one-le-pow e (radix P) (omega arith)
 
   -- no power wraps
-  value-letter : (c : ℕ) → c < 256 → 0 < cc P c → heapValue P c ≡ base P ^ rank P c
+  value-letter : (c : ℕ) → c < 256 → 0 < cc P c → heapValue P c ≡ radix P ^ rank P c
   value-letter c l h = heapValue-some P c h ∙ (mod-eq-of-lt (lt-of-lt-of-le smaller (le-trans higher fits)))
     where
       rest : suc c + (256 - suc c) ≡ 256
       rest = omega arith
 
-      higher : base P ^ suc (rank P c) ≤ base P ^ rank P 256
+      higher : radix P ^ suc (rank P c) ≤ radix P ^ rank P 256
       higher =
           pow-le-pow-right (omega arith)
           (rw (ap (rank P) rest) at (rw (rank-letter P c h) at (rank-grows P (suc c) (256 - suc c))))
 
-      smaller : base P ^ rank P c < base P ^ suc (rank P c)
+      smaller : radix P ^ rank P c < radix P ^ suc (rank P c)
       smaller =
           rw (base-step (rank P c))
-          (omega (arith, base-pos (rank P c), mul-le-mul-right (base P ^ rank P c) at-least-two))
+          (omega (arith, base-pos (rank P c), mul-le-mul-right (radix P ^ rank P c) at-least-two))
         where
-          at-least-two : 2 ≤ base P
+          at-least-two : 2 ≤ radix P
           at-least-two = omega (arith, cc-length P c)
 
   -- the digits below n make a number below (m + 1)^(the letters below n)
-  weigh-below : (W : List ℕ) → length W ≤ length P → (n : ℕ) → n ≤ 256 → weigh P W n < base P ^ rank P n
+  weigh-below : (W : List ℕ) → length W ≤ length P → (n : ℕ) → n ≤ 256 → weigh P W n < radix P ^ rank P n
   weigh-below W short zero l = rw (weigh-zero P W) (base-pos (rank P 0))
   weigh-below W short (suc n) l =
-      let below : weigh P W n < base P ^ rank P n = weigh-below W short n (omega arith) in
+      let below : weigh P W n < radix P ^ rank P n = weigh-below W short n (omega arith) in
       ⊎-elim (λ (e : cc P n ≡ 0). rw (weigh-suc P W n, heapValue-none P n e, rank-other P n e, mul-zero (cc W n), add-zero (weigh P W n)) below)
       (λ (h : 0 < cc P n).
-      rw (weigh-suc P W n, value-letter n l h, rank-letter P n h, base-step (rank P n), add-comm (weigh P W n) (cc W n * base P ^ rank P n))
+      rw (weigh-suc P W n, value-letter n l h, rank-letter P n h, base-step (rank P n), add-comm (weigh P W n) (cc W n * radix P ^ rank P n))
       (digits-lt (omega (arith, cc-length W n)) below)) (eq-zero-or-pos (cc P n))
 
   -- so two windows that weigh the same have the same digits
@@ -130,7 +130,7 @@ module _ (P : List ℕ) (fits : base P ^ rank P 256 ≤ 2 ^ 64) where
       digits-same W U shortW shortU n (omega arith) (sym (other W o) ∙ e ∙ other U o) c (earlier o (below-or-not c n)) h)
       (λ (o : 0 < cc P n).
       let place : (cc W n ≡ cc U n) × (weigh P W n ≡ weigh P U n) =
-      place-same (cc W n) (cc U n) (weigh P W n) (weigh P U n) (base P ^ rank P n) (weigh-below W shortW n (omega arith))
+      place-same (cc W n) (cc U n) (weigh P W n) (weigh P U n) (radix P ^ rank P n) (weigh-below W shortW n (omega arith))
       (weigh-below U shortU n (omega arith)) (sym (letter W o) ∙ e ∙ letter U o) in
       ⊎-elim (λ (k : c < n). digits-same W U shortW shortU n (omega arith) (place .1) c k h)
       (λ (k : n ≤ c). let same : c ≡ n = omega arith in rw same (place .0)) (below-or-not c n)) (eq-zero-or-pos (cc P n))
@@ -138,7 +138,7 @@ module _ (P : List ℕ) (fits : base P ^ rank P 256 ≤ 2 ^ 64) where
       other : (Y : List ℕ) → cc P n ≡ 0 → weigh P Y (suc n) ≡ weigh P Y n
       other Y o = rw (weigh-suc P Y n, heapValue-none P n o, mul-zero (cc Y n)) (add-zero (weigh P Y n))
 
-      letter : (Y : List ℕ) → 0 < cc P n → weigh P Y (suc n) ≡ weigh P Y n + cc Y n * base P ^ rank P n
+      letter : (Y : List ℕ) → 0 < cc P n → weigh P Y (suc n) ≡ weigh P Y n + cc Y n * radix P ^ rank P n
       letter Y o = rw (weigh-suc P Y n, value-letter n l o) refl
 
       earlier : cc P n ≡ 0 → (c < n) ⊎ (n ≤ c) → c < n
@@ -159,15 +159,15 @@ module _ (P : List ℕ) (fits : base P ^ rank P 256 ≤ 2 ^ 64) where
 
 module _ (P : List ℕ) (hP : Bytes P) (W : List ℕ) (hW : Bytes W) (same : length W ≡ length P) where
   -- where (m + 1)^q ≤ 2^64, a candidate matches
-  pub candidate-matches : exact P ≡ true → heapSum P W ≡ heapSum P P → matches P 0 W ≡ true
+  candidate-matches : exact P ≡ true → heapSum P W ≡ heapSum P P → matches P 0 W ≡ true
   unfolding exact matches
   candidate-matches x e =
       le-leb (excess P W) 0
       (le-of-eq
-      (excess-of-counts P W (candidate-counts P (leb-true (base P ^ rank P 256) (2 ^ 64) x) W hP hW same e)))
+      (excess-of-counts P W (candidate-counts P (leb-true (radix P ^ rank P 256) (2 ^ 64) x) W hP hW same e)))
 
   -- and in any case a window that is no candidate does not match
-  pub others-differ : (heapSum P W ≡ heapSum P P → ⊥) → matches P 0 W ≡ false
+  others-differ : (heapSum P W ≡ heapSum P P → ⊥) → matches P 0 W ≡ false
   unfolding matches
   others-differ differ =
       ⊎-elim (λ (e : excess P W ≡ 0). absurd (differ (sum-of-counts P W hP hW (counts-of-excess P W hP hW same e))))

@@ -10,7 +10,7 @@ use Rattle.jumbled.specs.Match.{Bytes, matches, starts, positions}
 use Rattle.jumbled.specs.Scan.{Scanned, singles, pairs, backward, Judged, forward}
 use Rattle.jumbled.specs.Fields.{bamLayout, bam2Layout, abamLayout, overflows, errors}
 use Rattle.jumbled.specs.Steps.{countJudged, bamScan, bam2Scan, abamScan, hcamJudged, steps}
-use Rattle.jumbled.specs.Refusals.{given, patternTests}
+use Rattle.jumbled.specs.Refusals.{given, exactOnly, patternTests}
 use Rattle.jumbled.proofs.Admission.{MethodTaken, admitted}
 use Rattle.jumbled.proofs.Drivers.{Sound, backward-lists, forward-lists}
 use Rattle.jumbled.proofs.Scans.{scan-sound, scan-most, by-singles, by-pairs}
@@ -19,17 +19,17 @@ use Rattle.jumbled.proofs.HeapSums.{hcam-judges}
 
 -- ---- each method's scan or judgement
 
-pub bam-sound : (P : List ℕ) → Bytes P → Sound P 0 (bamScan P)
+bam-sound : (P : List ℕ) → Bytes P → Sound P 0 (bamScan P)
 unfolding bamScan
 bam-sound P hP =
     scan-sound P 0 1 (overflows P bamLayout) (overflows-exact P 1 bamLayout hP bam-roomy) (λ W. singles (reverse W)) by-singles
 
-pub bam2-sound : (P : List ℕ) → Bytes P → Sound P 0 (bam2Scan P)
+bam2-sound : (P : List ℕ) → Bytes P → Sound P 0 (bam2Scan P)
 unfolding bam2Scan
 bam2-sound P hP =
     scan-sound P 0 2 (overflows P bam2Layout) (overflows-exact P 2 bam2Layout hP bam2-roomy) (λ W. pairs (reverse W)) by-pairs
 
-pub abam-sound : (P : List ℕ) (k : ℕ) → Bytes P → Sound P k (abamScan P k)
+abam-sound : (P : List ℕ) (k : ℕ) → Bytes P → Sound P k (abamScan P k)
 unfolding abamScan
 abam-sound P k hP =
     scan-sound P k 1 (λ R. ltb k (errors P (abamLayout k) R)) (errors-exact P k 1 (abamLayout k) hP (abam-roomy k))
@@ -53,21 +53,21 @@ abam-most P k W =
 
 module _ (P : List ℕ) (k : ℕ) (T : List ℕ) (hT : Bytes T) where
   backward-positions : (scanned : List ℕ → Scanned) → Sound P k scanned
-      → backward scanned (length P) T 0 (starts (length P) T) 0 .positions ≡ positions P k T
+      → backward scanned (length P) T 0 (starts (length P) T) 0 .occurrences ≡ positions P k T
   unfolding positions
   backward-positions scanned sound =
       backward-lists P k T hT scanned sound 0 (starts (length P) T) 0 (le-of-eq (zero-add (starts (length P) T))) (λ d l. absurd (not-suc-le-zero l))
 
   forward-positions : (judged : List ℕ → Judged) → ((W : List ℕ) → Bytes W → length W ≡ length P → judged W .listed ≡ matches P k W)
-      → (cost : ℕ) → forward judged (length P) T 0 (starts (length P) T) cost .positions ≡ positions P k T
+      → (cost : ℕ) → forward judged (length P) T 0 (starts (length P) T) cost .occurrences ≡ positions P k T
   unfolding positions
   forward-positions judged sound cost =
       forward-lists P k T hT judged sound 0 (starts (length P) T) cost (le-of-eq (zero-add (starts (length P) T)))
 
 -- ---- the theorem
 
-by-method : (P : List ℕ) (k method : ℕ) (T : List ℕ) → Bytes P → Bytes T → MethodTaken P k method → steps P k method T .positions ≡ positions P k T
-unfolding steps countJudged
+by-method : (P : List ℕ) (k method : ℕ) (T : List ℕ) → Bytes P → Bytes T → MethodTaken P k method → steps P k method T .occurrences ≡ positions P k T
+unfolding steps countJudged exactOnly
 by-method P k zero T hP hT taken = absurd (not-suc-le-zero (taken .least))
 by-method P k (suc zero) T hP hT taken = forward-positions P k T hT (countJudged P k) (λ W b e. refl) _
 by-method P k (suc (suc zero)) T hP hT taken =
@@ -81,5 +81,5 @@ by-method P k (suc (suc (suc (suc (suc (suc n)))))) T hP hT taken = absurd (let 
 
 -- Whatever is not refused by 1 to 5: the positions of the method's steps are exactly the listed positions
 pub methods-list : (P : List ℕ) (k method : ℕ) (T : List ℕ) → Bytes P → Bytes T → given (patternTests P k method) ≡ 0
-    → steps P k method T .positions ≡ positions P k T
+    → steps P k method T .occurrences ≡ positions P k T
 methods-list P k method T hP hT accepted = by-method P k method T hP hT (admitted P k method accepted .taken)

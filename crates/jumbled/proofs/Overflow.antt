@@ -6,14 +6,14 @@ use mathlib.Core.Logic.{⊎-elim}
 use Prim.Native.Nat.{ℕ, zero, suc, _+_, _-_, _*_, _/_, _%_, _^_, _≤_, _<_, max}
 use native.Mathlib.Nat.{le-refl, pow-succ', div-eq-of-lt, eq-zero-or-pos}
 use native.Mathlib.Omega.{arith}
-use lib.Dec.{leb, ltb, eqb, lit<}
+use lib.Dec.{ltb, eqb, lit<}
 use lib.Arith.{digits-div}
 use lib.Pow.{pow-pos}
-use borrow.Author.Tests.{eq-eqb, ne-eqb, lt-ltb, le-ltb, le-leb, lt-leb, ltb-true}
-use Rattle.jumbled.specs.Match.{Bytes, bit, cc, excess}
-use Rattle.jumbled.specs.Fields.{lg, shared, fields, fieldOf, Layout, bamLayout, bam2Layout, abamLayout, widthOf, startOf, valueOf, topSet, some, overflows, ownTopSet, errors}
+use borrow.Author.Tests.{eq-eqb, ne-eqb, lt-ltb, le-ltb, ltb-true}
+use Rattle.jumbled.specs.Match.{Bytes, bit, cc, usedUp, excess}
+use Rattle.jumbled.specs.Fields.{lg, shared, fieldCount, fieldOf, Layout, bamLayout, bam2Layout, abamLayout, widthOf, startValue, valueOf, topSet, some, overflows, ownTopSet, errors}
 use Rattle.jumbled.proofs.Sums.{below-or-not, some-at, some-none}
-use Rattle.jumbled.proofs.Counts.{bytes-head, bytes-tail, cc-cons, cc-out, excess-nil, excess-cons, excess-at}
+use Rattle.jumbled.proofs.Counts.{bytes-head, bytes-tail, cc-cons, cc-out, used-up, not-used-up, excess-nil, excess-cons, excess-at}
 use Rattle.jumbled.proofs.Lg.{lg-enough}
 use Rattle.jumbled.proofs.Scans.{Exact}
 
@@ -21,11 +21,11 @@ use Rattle.jumbled.proofs.Scans.{Exact}
 
 -- A field of g bits that starts at 2^(g-1) - v - 1 and was added to h times, which is at most v + 2^(g-1): its top bit is set exactly where
 -- h is over v, and it did not carry into its neighbour
-record Kept (g v h : ℕ) : Type 0 where
+record SaveResult (g v h : ℕ) : Type 0 where
   top : topSet g ((2 ^ (g - 1) - v - 1) + h) ≡ ltb v h
   holds : (2 ^ (g - 1) - v - 1) + h < 2 ^ g
 
-kept : (g v h : ℕ) → 0 < g → v + 1 ≤ 2 ^ (g - 1) → h ≤ v + 2 ^ (g - 1) → Kept g v h
+kept : (g v h : ℕ) → 0 < g → v + 1 ≤ 2 ^ (g - 1) → h ≤ v + 2 ^ (g - 1) → SaveResult g v h
 unfolding topSet
 kept g v h some starts room =
     record { top = ⊎-elim over under (below-or-not v h); holds = omega (arith, doubled g some) }
@@ -42,7 +42,7 @@ kept g v h some starts room =
     under l = rw (div-eq-of-lt {n = (2 ^ (g - 1) - v - 1) + h} {m = 2 ^ (g - 1)} (omega arith), le-ltb v h l) refl
 
 -- a field of 0 bits that nothing was added to
-kept-none : Kept 0 0 0
+kept-none : SaveResult 0 0 0
 unfolding topSet
 kept-none = record { top = refl; holds = lit< tt }
 
@@ -79,12 +79,12 @@ pub data Stands (P : List ℕ) (f : ℕ) : Type 0 where
   for-letter : f < 256 → 0 < cc P f → Stands P f
   for-none : f < 256 → cc P f ≡ 0 → Stands P f
 
-pub stands : (P : List ℕ) (f : ℕ) → f < fields → Stands P f
+pub stands : (P : List ℕ) (f : ℕ) → f < fieldCount → Stands P f
 stands P f l =
     ⊎-elim (λ (h : f < 256). ⊎-elim (λ e. for-none h e) (λ e. for-letter h e) (eq-zero-or-pos (cc P f)))
     (λ (h : 256 ≤ f). for-others (omega arith)) (below-or-not f 256)
 
-pub field-numbered : (P : List ℕ) (b : ℕ) → b < 256 → fieldOf P b < fields
+pub field-numbered : (P : List ℕ) (b : ℕ) → b < 256 → fieldOf P b < fieldCount
 field-numbered P b h =
     ⊎-elim (λ e. rw (field-outside P b e) (omega arith)) (λ i. rw (field-inside P b i) (omega arith)) (eq-zero-or-pos (cc P b))
 
@@ -117,29 +117,29 @@ hits-shared P (b ∷ R) hR = let ih = hits-shared P R (bytes-tail hR) in ⊎-eli
   where
     outside : hits P R shared ≤ excess P R → cc P b ≡ 0 → bit (eqb (fieldOf P b) shared) + hits P R shared ≤ excess P (b ∷ R)
     outside ih e =
-        rw (field-outside P b e, excess-cons P b R (bytes-head hR), le-leb (cc P b) (cc R b) (omega arith)) (omega arith)
+        rw (field-outside P b e, excess-cons P b R (bytes-head hR), used-up P R b (omega arith)) (omega arith)
 
     inside : hits P R shared ≤ excess P R → 0 < cc P b → bit (eqb (fieldOf P b) shared) + hits P R shared ≤ excess P (b ∷ R)
     inside ih i =
         let hb = bytes-head hR in
         rw (field-inside P b i, ne-eqb b shared (λ q. omega arith), excess-cons P b R hb) (omega arith)
 
--- the look at b adds to its field past the letter's count exactly when P's share of b was used up before
+-- the inspection of b adds to its field past the letter's count exactly when what P allows of b was used up before
 hits-own : (P : List ℕ) (b : ℕ) (R : List ℕ) → Bytes P → b < 256
-    → ltb (cc P (fieldOf P b)) (hits P (b ∷ R) (fieldOf P b)) ≡ leb (cc P b) (cc R b)
+    → ltb (cc P (fieldOf P b)) (hits P (b ∷ R) (fieldOf P b)) ≡ usedUp P R b
 hits-own P b R hP hb = ⊎-elim outside inside (eq-zero-or-pos (cc P b))
   where
-    outside : cc P b ≡ 0 → ltb (cc P (fieldOf P b)) (hits P (b ∷ R) (fieldOf P b)) ≡ leb (cc P b) (cc R b)
+    outside : cc P b ≡ 0 → ltb (cc P (fieldOf P b)) (hits P (b ∷ R) (fieldOf P b)) ≡ usedUp P R b
     outside e =
-        rw (le-leb (cc P b) (cc R b) (omega arith))
+        rw (used-up P R b (omega arith))
         (lt-ltb (cc P (fieldOf P b)) (hits P (b ∷ R) (fieldOf P b))
         (rw (hits-cons P b R (fieldOf P b), eq-eqb (fieldOf P b) (fieldOf P b) refl, field-outside P b e, cc-out P shared hP (le-refl 256)) (omega arith)))
 
-    inside : 0 < cc P b → ltb (cc P (fieldOf P b)) (hits P (b ∷ R) (fieldOf P b)) ≡ leb (cc P b) (cc R b)
+    inside : 0 < cc P b → ltb (cc P (fieldOf P b)) (hits P (b ∷ R) (fieldOf P b)) ≡ usedUp P R b
     inside i =
         rw (field-inside P b i, hits-letter P (b ∷ R) b hb i, cc-cons b R b, eq-eqb b b refl)
-        (⊎-elim (λ (l : cc R b < cc P b). rw (lt-leb (cc P b) (cc R b) l) (le-ltb (cc P b) (1 + cc R b) (omega arith)))
-        (λ (l : cc P b ≤ cc R b). rw (le-leb (cc P b) (cc R b) l) (lt-ltb (cc P b) (1 + cc R b) (omega arith))) (below-or-not (cc R b) (cc P b)))
+        (⊎-elim (λ (l : cc R b < cc P b). rw (not-used-up P R b l) (le-ltb (cc P b) (1 + cc R b) (omega arith)))
+        (λ (l : cc P b ≤ cc R b). rw (used-up P R b l) (lt-ltb (cc P b) (1 + cc R b) (omega arith))) (below-or-not (cc R b) (cc P b)))
 
 -- no byte adds to a number that stands for no field
 hits-none : (P R : List ℕ) (f : ℕ) → f < 256 → cc P f ≡ 0 → hits P R f ≡ 0
@@ -162,7 +162,7 @@ hits-within P R f hR (for-none l e) = omega (arith, hits-none P R f l e)
 -- a field that was added to more often than its letter's count
 record Over (P R : List ℕ) : Type 0 where
   field : ℕ
-  numbered : field < fields
+  numbered : field < fieldCount
   more : cc P field < hits P R field
 
 -- where there is an excess there is one
@@ -175,12 +175,12 @@ over P (b ∷ R) hP hR h = ⊎-elim (before (over P R hP (bytes-tail hR))) now (
         record {
           field = fieldOf P b;
           numbered = field-numbered P b (bytes-head hR);
-          more = ltb-true (cc P (fieldOf P b)) (hits P (b ∷ R) (fieldOf P b)) (hits-own P b R hP (bytes-head hR) ∙ le-leb (cc P b) (cc R b) l);
+          more = ltb-true (cc P (fieldOf P b)) (hits P (b ∷ R) (fieldOf P b)) (hits-own P b R hP (bytes-head hR) ∙ used-up P R b l);
         }
 
     before : (0 < excess P R → Over P R) → cc R b < cc P b → Over P (b ∷ R)
     before earlier l =
-        let same : excess P (b ∷ R) ≡ excess P R + 0 = excess-cons P b R (bytes-head hR) ∙ ap (λ (t : Bool). excess P R + bit t) (lt-leb (cc P b) (cc R b) l) in
+        let same : excess P (b ∷ R) ≡ excess P R + 0 = excess-cons P b R (bytes-head hR) ∙ ap (λ (t : Bool). excess P R + bit t) (not-used-up P R b l) in
         let was : Over P R = earlier (omega arith) in
         record {
           field = was .field;
@@ -205,11 +205,11 @@ module _ (P : List ℕ) (k q : ℕ) (layout : Layout) (bytes : Bytes P) (roomy :
     top : topSet (widthOf P layout f) (valueOf P layout R f) ≡ ltb (cc P f) (hits P R f)
     holds : valueOf P layout R f < 2 ^ widthOf P layout f
 
-  from-kept : (R : List ℕ) (f g : ℕ) → widthOf P layout f ≡ g → Kept g (cc P f) (hits P R f) → Tells R f
-  unfolding valueOf startOf hits
+  from-kept : (R : List ℕ) (f g : ℕ) → widthOf P layout f ≡ g → SaveResult g (cc P f) (hits P R f) → Tells R f
+  unfolding valueOf startValue hits
   from-kept R f g e field = record { top = rw e (field .top); holds = rw e (field .holds) }
 
-  tells : (R : List ℕ) (f : ℕ) → Bytes R → excess P R ≤ k + q → f < fields → Tells R f
+  tells : (R : List ℕ) (f : ℕ) → Bytes R → excess P R ≤ k + q → f < fieldCount → Tells R f
   tells R f hR within l = let at : Stands P f = stands P f l in case at (hits-within P R f hR at)
     where
       case : Stands P f → hits P R f ≤ cc P f + excess P R → Tells R f
@@ -225,19 +225,19 @@ module _ (P : List ℕ) (k q : ℕ) (layout : Layout) (bytes : Bytes P) (roomy :
       case (for-none small e) most = from-kept R f 0 (width-none P layout f small e) (rw (e, hits-none P R f small e) kept-none)
 
   -- no field carries into its neighbour before the scan stops
-  pub no-carry : (R : List ℕ) (f : ℕ) → Bytes R → excess P R ≤ k + q → f < fields → valueOf P layout R f < 2 ^ widthOf P layout f
+  pub no-carry : (R : List ℕ) (f : ℕ) → Bytes R → excess P R ≤ k + q → f < fieldCount → valueOf P layout R f < 2 ^ widthOf P layout f
   no-carry R f hR within l = tells R f hR within l .holds
 
   -- errors are the excess
-  pub errors-excess : (R : List ℕ) → Bytes R → excess P R ≤ k + q → errors P layout R ≡ excess P R
+  errors-excess : (R : List ℕ) → Bytes R → excess P R ≤ k + q → errors P layout R ≡ excess P R
   unfolding errors ownTopSet
   errors-excess [] hR within = sym (excess-nil P)
   errors-excess (b ∷ R) hR within =
-      let grown : excess P (b ∷ R) ≡ excess P R + bit (leb (cc P b) (cc R b)) = excess-cons P b R (bytes-head hR) in
+      let grown : excess P (b ∷ R) ≡ excess P R + bit (usedUp P R b) = excess-cons P b R (bytes-head hR) in
       let earlier : errors P layout R ≡ excess P R = errors-excess R (bytes-tail hR) (omega arith) in
       rw (own-top, earlier) (omega arith)
     where
-      own-top : ownTopSet P layout (b ∷ R) b ≡ leb (cc P b) (cc R b)
+      own-top : ownTopSet P layout (b ∷ R) b ≡ usedUp P R b
       own-top =
           tells (b ∷ R) (fieldOf P b) hR within (field-numbered P b (bytes-head hR)) .top ∙ hits-own P b R bytes (bytes-head hR)
 
@@ -250,14 +250,14 @@ overflows-exact P q layout hP roomy = record { tells = λ U hU within. ⊎-elim 
   where
     none : (U : List ℕ) → Bytes U → excess P U ≤ 0 + q → excess P U ≡ 0 → overflows P layout U ≡ ltb 0 (excess P U)
     none U hU within e =
-        some-none fields (λ f. topSet (widthOf P layout f) (valueOf P layout U f))
+        some-none fieldCount (λ f. topSet (widthOf P layout f) (valueOf P layout U f))
         (λ f l. tells P 0 q layout hP roomy U f hU within l .top ∙ le-ltb (cc P f) (hits P U f) (omega (arith, hits-within P U f hU (stands P f l))))
         ∙ sym (le-ltb 0 (excess P U) (omega arith))
 
     found : (U : List ℕ) → Bytes U → excess P U ≤ 0 + q → 0 < excess P U → overflows P layout U ≡ ltb 0 (excess P U)
     found U hU within h =
         let o : Over P U = over P U hP hU h in
-        some-at fields (λ f. topSet (widthOf P layout f) (valueOf P layout U f)) (o .field) (o .numbered)
+        some-at fieldCount (λ f. topSet (widthOf P layout f) (valueOf P layout U f)) (o .field) (o .numbered)
         (tells P 0 q layout hP roomy U (o .field) hU within (o .numbered) .top ∙ lt-ltb (cc P (o .field)) (hits P U (o .field)) (o .more))
         ∙ sym (lt-ltb 0 (excess P U) h)
 

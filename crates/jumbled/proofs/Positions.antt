@@ -110,7 +110,11 @@ either : (t : Bool) (r : Result) → cond t r r ≡ r
 either true r = refl
 either false r = refl
 
--- no method makes any where n < m
-pub no-inspections : (P : List ℕ) (k method : ℕ) (T : List ℕ) → length T < length P → steps P k method T ≡ nothing
+-- no method lists or inspects anything where no window starts,
+pub no-windows : (P : List ℕ) (k method : ℕ) (T : List ℕ) → starts (length P) T ≡ 0 → steps P k method T ≡ nothing
 unfolding steps forward backward
-no-inspections P k method T h = let none : starts (length P) T ≡ 0 = omega arith in rw none (simp either)
+no-windows P k method T empty = rw empty (simp either)
+
+-- which is where n < m
+pub no-inspections : (P : List ℕ) (k method : ℕ) (T : List ℕ) → length T < length P → steps P k method T ≡ nothing
+no-inspections P k method T h = no-windows P k method T (omega arith)

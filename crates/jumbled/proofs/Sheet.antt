@@ -6,7 +6,7 @@ use Prim.Native.Char.{code}
 use Prim.Native.String as Text
 use Rattle.jumbled.specs.Match.{cc, sum, excess, matches, select, positions}
 use Rattle.jumbled.specs.Scan.{Result, scan, singles, pairs, backward, forward}
-use Rattle.jumbled.specs.Fields.{first, lg, fieldOf, widthOf, startOf, valueOf, topSet, some, overflows, ownTopSet, errors}
+use Rattle.jumbled.specs.Fields.{first, lg, fieldOf, widthOf, startValue, valueOf, topSet, some, overflows, ownTopSet, errors}
 use Rattle.jumbled.specs.Heap.{occurs, rank, heapValue, heapSum, exact}
 use Rattle.jumbled.specs.Steps.{countJudged, bamScan, bam2Scan, abamScan, hcamJudged, steps}
 
@@ -15,16 +15,16 @@ ascii : Text.String → List ℕ
 ascii Text.[] = []
 ascii (Text._∷_ ch more) = code ch ∷ ascii more
 
--- A row: the pattern, k, the record, the positions, and each method whose looks the row gives, with their number
+-- A row: the pattern, k, the record, the positions, and each method whose inspections the row gives, with their number
 pub record Row : Type 0 where
   pub pattern : Text.String
   pub k : ℕ
   pub text : Text.String
   pub listed : List ℕ
-  pub looks : List (ℕ × ℕ)
+  pub inspections : List (ℕ × ℕ)
 
 row : Text.String → ℕ → Text.String → List ℕ → List (ℕ × ℕ) → Row
-row P k T listed looks = record { pattern = P; k = k; text = T; listed = listed; looks = looks }
+row P k T listed inspections = record { pattern = P; k = k; text = T; listed = listed; inspections = inspections }
 
 rows : List Row
 rows =
@@ -38,17 +38,17 @@ rows =
     ∷ row "accgta" 0 "ccgatacgcattgac" (0 ∷ 1 ∷ 3 ∷ 4 ∷ 5 ∷ []) ((1, 15) ∷ [])
     ∷ []
 
--- Of a row: the listed positions are those of the row, and the steps of each method that it names list them with the looks that it gives
+-- Of a row: the listed positions are those of the row, and the steps of each method that it names list them with the inspections that it gives
 abbrev Right : Row → Type 0
 Right r =
     (positions (ascii (r .pattern)) (r .k) (ascii (r .text)) ≡ r .listed)
-    × (map (λ (l : ℕ × ℕ). steps (ascii (r .pattern)) (r .k) (l .0) (ascii (r .text))) (r .looks)
-    ≡ map {B = Result} (λ (l : ℕ × ℕ). record { positions = r .listed; inspections = l .1 }) (r .looks))
+    × (map (λ (l : ℕ × ℕ). steps (ascii (r .pattern)) (r .k) (l .0) (ascii (r .text))) (r .inspections)
+    ≡ map {B = Result} (λ (l : ℕ × ℕ). record { occurrences = r .listed; inspections = l .1 }) (r .inspections))
 
 abbrev Every : List Row → Type 0
 Every [] = Unit {0}
 Every (r ∷ rs) = Right r × Every rs
 
 sheet : Every rows
-unfolding rows row ascii positions cc sum excess matches select scan singles pairs backward forward first lg fieldOf widthOf startOf valueOf topSet some overflows ownTopSet errors occurs rank heapValue heapSum exact countJudged bamScan bam2Scan abamScan hcamJudged steps
+unfolding rows row ascii positions cc sum excess matches select scan singles pairs backward forward first lg fieldOf widthOf startValue valueOf topSet some overflows ownTopSet errors occurs rank heapValue heapSum exact countJudged bamScan bam2Scan abamScan hcamJudged steps
 sheet = ((refl, refl), ((refl, refl), ((refl, refl), ((refl, refl), ((refl, refl), ((refl, refl), ((refl, refl), ((refl, refl), tt))))))))

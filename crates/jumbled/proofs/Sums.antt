@@ -61,7 +61,7 @@ sum-same (suc n) f g h e c l =
     (λ (m : n ≤ c). let same : c ≡ n = omega arith in rw same (omega arith)) (below-or-not c n)
 
 -- a number that stands at one place alone
-pub sum-none : (n b d : ℕ) → n ≤ b → sum n (λ c. cond (eqb b c) d 0) ≡ 0
+sum-none : (n b d : ℕ) → n ≤ b → sum n (λ c. cond (eqb b c) d 0) ≡ 0
 unfolding sum
 sum-none zero b d l = refl
 sum-none (suc n) b d l = rw (sum-none n b d (omega arith), ne-eqb b n (λ e. omega arith)) refl

@@ -20,10 +20,10 @@ abbrev pub shared : ℕ
 shared = 256
 
 -- How many numbers stand for fields; that of a letter that P lacks stands for a field of 0 bits
-abbrev pub fields : ℕ
-fields = 257
+abbrev pub fieldCount : ℕ
+fieldCount = 257
 
--- The field that a look at c adds 1 to
+-- The field that an inspection of c adds 1 to
 unfoldable pub fieldOf : List ℕ → ℕ → ℕ
 fieldOf P c = cond (eqb (cc P c) 0) shared c
 
@@ -59,15 +59,15 @@ widthOf P layout f = cond (eqb f shared) (layout .common) (cond (eqb (cc P f) 0)
 
 -- The bits that all fields need together
 unfoldable pub bits : List ℕ → Layout → ℕ
-bits P layout = sum fields (widthOf P layout)
+bits P layout = sum fieldCount (widthOf P layout)
 
 -- A field of g bits starts at 2^(g-1) - cc(P, c) - 1. cc(P, 256) is 0, as no byte is 256.
-unfoldable pub startOf : List ℕ → Layout → ℕ → ℕ
-startOf P layout f = 2 ^ (widthOf P layout f - 1) - cc P f - 1
+unfoldable pub startValue : List ℕ → Layout → ℕ → ℕ
+startValue P layout f = 2 ^ (widthOf P layout f - 1) - cc P f - 1
 
--- The field f after the bytes R were read: each look at a byte added 1 to the byte's field
+-- The field f after the bytes R were read: each inspection of a byte added 1 to the byte's field
 unfoldable pub valueOf : List ℕ → Layout → List ℕ → ℕ → ℕ
-valueOf P layout R f = startOf P layout f + cc (map (fieldOf P) R) f
+valueOf P layout R f = startValue P layout f + cc (map (fieldOf P) R) f
 
 -- The top bit of a field of g bits that holds v is set
 unfoldable pub topSet : ℕ → ℕ → Bool
@@ -80,14 +80,14 @@ some (suc n) test = test n || some n test
 
 -- A field's top bit is set after the bytes R were read (methods 2 and 3)
 unfoldable pub overflows : List ℕ → Layout → List ℕ → Bool
-overflows P layout R = some fields (λ f. topSet (widthOf P layout f) (valueOf P layout R f))
+overflows P layout R = some fieldCount (λ f. topSet (widthOf P layout f) (valueOf P layout R f))
 
 -- The own top bit of b is set after the bytes R were read
 unfoldable pub ownTopSet : List ℕ → Layout → List ℕ → ℕ → Bool
 ownTopSet P layout R b = topSet (widthOf P layout (fieldOf P b)) (valueOf P layout R (fieldOf P b))
 
 -- The errors counted while the bytes R were read, from R's last byte to its first: one for each byte whose own top bit is set after the
--- look at it (method 4)
+-- inspection of it (method 4)
 unfoldable pub errors : List ℕ → Layout → List ℕ → ℕ
 errors P layout [] = 0
 errors P layout (b ∷ R) = bit (ownTopSet P layout (b ∷ R) b) + errors P layout R

@@ -15,12 +15,12 @@ unfoldable pub rank : List ℕ → ℕ → ℕ
 rank P c = sum c (λ d. bit (occurs P d))
 
 -- m + 1
-abbrev pub base : List ℕ → ℕ
-base P = length P + 1
+abbrev pub radix : List ℕ → ℕ
+radix P = length P + 1
 
 -- The value of c_i is (m + 1)^i, of any other letter 0; the powers wrap at 2^64
 unfoldable pub heapValue : List ℕ → ℕ → ℕ
-heapValue P c = cond (occurs P c) (base P ^ rank P c % 2 ^ 64) 0
+heapValue P c = cond (occurs P c) (radix P ^ rank P c % 2 ^ 64) 0
 
 -- The sum of a window's values; the sums wrap at 2^64
 unfoldable pub heapSum : List ℕ → List ℕ → ℕ
@@ -29,4 +29,4 @@ heapSum P (b ∷ W) = (heapValue P b + heapSum P W) % 2 ^ 64
 
 -- (m + 1)^q ≤ 2^64: a candidate matches, and is not verified
 unfoldable pub exact : List ℕ → Bool
-exact P = leb (base P ^ rank P 256) (2 ^ 64)
+exact P = leb (radix P ^ rank P 256) (2 ^ 64)

@@ -24,10 +24,18 @@ unfoldable pub sum : ℕ → (ℕ → ℕ) → ℕ
 sum zero f = 0
 sum (suc n) f = sum n f + f n
 
+-- How often the pattern P allows the byte c: as often as P has it
+abbrev pub allows : List ℕ → ℕ → ℕ
+allows P c = cc P c
+
+-- The bytes U use up what P allows of c: one c more is in excess
+unfoldable pub usedUp : List ℕ → List ℕ → ℕ → Bool
+usedUp P U c = leb (allows P c) (cc U c)
+
 -- The excess of the window W over the pattern P: the sum over all bytes c of max(cc(W, c) - cc(P, c), 0).
 -- A difference of naturals stops at 0, so it is that maximum.
 unfoldable pub excess : List ℕ → List ℕ → ℕ
-excess P W = sum 256 (λ c. cc W c - cc P c)
+excess P W = sum 256 (λ c. cc W c - allows P c)
 
 -- W, of the pattern's length, is a k-approximate permutation of P
 unfoldable pub matches : List ℕ → ℕ → List ℕ → Bool

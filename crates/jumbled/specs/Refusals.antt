@@ -1,5 +1,6 @@
 -- When a call says no: document 01, the section of that name. Numbers are those of its table; 0 says that nothing is refused.
-use Prim.Native.Nat.{ℕ}
+-- Each condition stands once, and each call's tests are put together from them, in its order.
+use Prim.Native.Nat.{ℕ, _+_, _-_, min}
 use mathlib.Core.Bool.{Bool, cond, not, _&&_, _||_}
 use mathlib.Core.List.{List, [], _∷_, _++_}
 use lib.Dec.{leb, ltb, eqb}
@@ -19,48 +20,120 @@ unfoldable pub given : List Test → ℕ
 given [] = 0
 given (t ∷ ts) = cond (t .applies) (t .number) (given ts)
 
+-- ---- the methods by their numbers
+
+-- A method: 1 to 5
+unfoldable pub isMethod : ℕ → Bool
+isMethod method = leb 1 method && leb method 5
+
+-- A method that takes no tolerance but 0: 2, 3 and 5
+unfoldable pub exactOnly : ℕ → Bool
+exactOnly method = eqb method 2 || eqb method 3 || eqb method 5
+
+-- ---- the conditions, each in a list of one test
+
+-- 1, of a pattern of m bytes
+unfoldable pub lengthTests : ℕ → List Test
+lengthTests m = test 1 (eqb m 0 || ltb 64 m) ∷ []
+
+-- 2, of k for a pattern of m bytes
+unfoldable pub toleranceTests : ℕ → ℕ → List Test
+toleranceTests m k = test 2 (leb m k) ∷ []
+
+-- 3, of a method's number
+unfoldable pub knownTests : ℕ → List Test
+knownTests method = test 3 (not (isMethod method)) ∷ []
+
+-- 4, of k for a method
+unfoldable pub exactTests : ℕ → ℕ → List Test
+exactTests k method = test 4 (ltb 0 k && exactOnly method) ∷ []
+
+-- 5, of the fields of a method for a pattern and k
+unfoldable pub widthTests : List ℕ → ℕ → ℕ → List Test
+widthTests P k method = test 5 (ltb 64 (bits P (layoutOf k method))) ∷ []
+
+-- 6, of a text or a chunk of so many bytes
+unfoldable pub textTests : ℕ → List Test
+textTests bytes = test 6 (ltb 65536 bytes) ∷ []
+
+-- 6, of a program's input of so many bytes
+unfoldable pub inputTests : ℕ → List Test
+inputTests bytes = test 6 (ltb 16384 bytes) ∷ []
+
+-- 7, of a text or a chunk of so many bytes and a list of so many places
+unfoldable pub placeTests : (bytes places : ℕ) → List Test
+placeTests bytes places = test 7 (ltb places bytes) ∷ []
+
+-- 8, of a chunk of so many bytes after n
+unfoldable pub totalTests : (n bytes : ℕ) → List Test
+totalTests n bytes = test 8 (ltb 4294967295 (n + bytes)) ∷ []
+
+-- The length of the tail after n bytes, for a pattern of m: "the last min(n, m − 1)"
+abbrev pub tailLength : ℕ → ℕ → ℕ
+tailLength m n = min n (m - 1)
+
+-- 9, of a tail of t bytes after n, for a pattern of m
+unfoldable pub tailTests : (m n t : ℕ) → List Test
+tailTests m n t = test 9 (not (eqb t (tailLength m n))) ∷ []
+
+-- 9, of an image; the definitions of images say when its form is bad
+unfoldable pub formTests : (badForm : Bool) → List Test
+formTests badForm = test 9 badForm ∷ []
+
+-- 10, of a buffer of so many places and an image of so many bytes
+unfoldable pub bufferTests : (places bytes : ℕ) → List Test
+bufferTests places bytes = test 10 (ltb places bytes) ∷ []
+
+-- 11, of a program's input; the definitions of the program say when its first line is bad
+unfoldable pub lineTests : (badLine : Bool) → List Test
+lineTests badLine = test 11 badLine ∷ []
+
+-- ---- the order of the tests of each call
+
 -- 3, 4 and 5, of a method for a pattern and k
 unfoldable pub methodTests : List ℕ → ℕ → ℕ → List Test
-methodTests P k method =
-    test 3 (not (leb 1 method && leb method 5))
-    ∷ test 4 (ltb 0 k && (eqb method 2 || eqb method 3 || eqb method 5))
-    ∷ test 5 (ltb 64 (bits P (layoutOf k method)))
-    ∷ []
+methodTests P k method = knownTests method ++ (exactTests k method ++ widthTests P k method)
 
--- 1 to 5
+-- Open: 1 to 5
 unfoldable pub patternTests : List ℕ → ℕ → ℕ → List Test
-patternTests P k method =
-    test 1 (eqb (length P) 0 || ltb 64 (length P))
-    ∷ test 2 (leb (length P) k)
-    ∷ methodTests P k method
+patternTests P k method = lengthTests (length P) ++ (toleranceTests (length P) k ++ methodTests P k method)
 
--- ---- the order of the tests of each call. Conditions 6 to 11 are arguments here: the crate of a call says what they are.
+-- 6 and 7
+unfoldable pub sizeTests : (bytes places : ℕ) → List Test
+sizeTests bytes places = textTests bytes ++ placeTests bytes places
 
--- Whole search: 1 to 7. (Open: 1 to 5.)
-unfoldable pub wholeTests : List ℕ → ℕ → ℕ → (tooLong tooFewPlaces : Bool) → List Test
-wholeTests P k method tooLong tooFewPlaces = patternTests P k method ++ (test 6 tooLong ∷ test 7 tooFewPlaces ∷ [])
+-- Whole search: 1 to 7
+unfoldable pub wholeTests : List ℕ → ℕ → ℕ → (bytes places : ℕ) → List Test
+wholeTests P k method bytes places = patternTests P k method ++ sizeTests bytes places
 
--- What feed, set method and save test first, of the search handed in: 1 to 5, then 9 for the tail
-unfoldable pub searchTests : List ℕ → ℕ → ℕ → (badTail : Bool) → List Test
-searchTests P k method badTail = patternTests P k method ++ (test 9 badTail ∷ [])
+-- Of a search's parts, with a tail of t bytes after n: 1 to 5, then 9 for the tail
+unfoldable pub searchTests : List ℕ → ℕ → ℕ → (n t : ℕ) → List Test
+searchTests P k method n t = patternTests P k method ++ tailTests (length P) n t
 
--- Feed: then 6, 7, 8
-unfoldable pub feedTests : List ℕ → ℕ → ℕ → (badTail tooLong tooFewPlaces totalPasses : Bool) → List Test
-feedTests P k method badTail tooLong tooFewPlaces totalPasses =
-    searchTests P k method badTail ++ (test 6 tooLong ∷ test 7 tooFewPlaces ∷ test 8 totalPasses ∷ [])
+-- A chunk after n bytes: 6, 7, 8
+unfoldable pub chunkTests : (n bytes places : ℕ) → List Test
+chunkTests n bytes places = sizeTests bytes places ++ totalTests n bytes
+
+-- Feed, set method and save first test the search handed in; of the next three `handed` has these tests. Feed: then 6, 7, 8
+unfoldable pub feedTests : (handed : List Test) (n bytes places : ℕ) → List Test
+feedTests handed n bytes places = handed ++ chunkTests n bytes places
 
 -- Set method: then 3, 4, 5 of the new method
-unfoldable pub setMethodTests : List ℕ → ℕ → ℕ → (badTail : Bool) → ℕ → List Test
-setMethodTests P k method badTail newMethod = searchTests P k method badTail ++ methodTests P k newMethod
+unfoldable pub setMethodTests : (handed : List Test) → List ℕ → ℕ → ℕ → List Test
+setMethodTests handed P k newMethod = handed ++ methodTests P k newMethod
 
 -- Save: then 10
-unfoldable pub saveTests : List ℕ → ℕ → ℕ → (badTail tooShort : Bool) → List Test
-saveTests P k method badTail tooShort = searchTests P k method badTail ++ (test 10 tooShort ∷ [])
+unfoldable pub saveTests : (handed : List Test) (places bytes : ℕ) → List Test
+saveTests handed places bytes = handed ++ bufferTests places bytes
 
--- Load: 9 for the image's form, then 1 to 5 of what it holds, then 9 for the tail
-unfoldable pub loadTests : (badForm : Bool) → List ℕ → ℕ → ℕ → (badTail : Bool) → List Test
-loadTests badForm P k method badTail = test 9 badForm ∷ searchTests P k method badTail
+-- Load: 9 for the image's form, then the tests of the parts that it holds
+unfoldable pub loadTests : (badForm : Bool) (held : List Test) → List Test
+loadTests badForm held = formTests badForm ++ held
 
--- The program: 6 before 11, then 1 to 5
-unfoldable pub programTests : (tooLong badLine : Bool) → List ℕ → ℕ → ℕ → List Test
-programTests tooLong badLine P k method = test 6 tooLong ∷ test 11 badLine ∷ patternTests P k method
+-- The program's input: 6 before 11
+unfoldable pub requestTests : (bytes : ℕ) (badLine : Bool) → List Test
+requestTests bytes badLine = inputTests bytes ++ lineTests badLine
+
+-- The program: then 1 to 5
+unfoldable pub programTests : (bytes : ℕ) (badLine : Bool) → List ℕ → ℕ → ℕ → List Test
+programTests bytes badLine P k method = requestTests bytes badLine ++ patternTests P k method

@@ -3,22 +3,23 @@
 use Prim.Native.Nat.{ℕ, zero, suc, _+_, _-_}
 use mathlib.Core.Bool.{Bool, true, false, cond}
 use mathlib.Core.List.{List, [], _∷_, _++_}
-use lib.ListN.{length}
+use lib.Dec.{ltb}
+use lib.ListN.{length, getD}
 use Rattle.jumbled.specs.Match.{window}
 
 -- What the steps of a method yield
 pub record Result : Type 0 where
-  pub positions : List ℕ
+  pub occurrences : List ℕ
   pub inspections : ℕ
 
 abbrev pub nothing : Result
-nothing = record { positions = []; inspections = 0 }
+nothing = record { occurrences = []; inspections = 0 }
 
 -- One window's share, before what the windows after it yield: s, if it is listed, and its inspections
 abbrev pub note : Bool → ℕ → ℕ → Result → Result
 note listed s taken rest =
     record {
-      positions = cond listed (s ∷ rest .positions) (rest .positions);
+      occurrences = cond listed (s ∷ rest .occurrences) (rest .occurrences);
       inspections = taken + rest .inspections;
     }
 
@@ -87,3 +88,11 @@ forward judged m T s zero cost = nothing
 forward judged m T s (suc left) cost =
     let w : Judged = judged (window m T s) in
     note (w .listed) s (cost + w .verification) (forward judged m T (suc s) left 1)
+
+-- ---- a search that ends where its places are full
+
+-- How many of the `left` window starts from s on a search goes through that would list these positions and has so many places for them: it
+-- ends with the window that takes the last place, and where a place stays free it goes through all of them.
+unfoldable pub through : ℕ → ℕ → ℕ → List ℕ → ℕ
+through zero s left listed = 0
+through (suc places) s left listed = cond (ltb places (length listed)) (suc (getD listed places 0) - s) left

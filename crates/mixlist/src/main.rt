@@ -7,6 +7,6 @@ fn main() {
     let mut input = [0u8; 16385];
     let read = io::read_full(STDIN_FILENO, &mut input);
     let mut output = [0u8; 98560];
-    let written = report::report(&input[..read], &mut output);
+    let written = program_report::report(&input[..read], &mut output);
     io::write_all(STDOUT_FILENO, &output[..written]);
 }

@@ -1,35 +1,33 @@
 -- The answers of save and load.
 use mathlib.Core.Path.{_≡_, refl, sym, _∙_}
 use mathlib.Core.Bool.{true, false}
-use mathlib.Core.List.{List, [], _∷_}
+use mathlib.Core.List.{List}
 use Prim.Native.Nat.{ℕ}
-use lib.Dec.{ltb}
 use lib.ListN.{length}
-use Rattle.jumbled.specs.Refusals.{test, given, saveTests, loadTests}
+use Rattle.jumbled.specs.Refusals.{given, formTests, bufferTests, saveTests, loadTests}
 use Rattle.jumbled.proofs.Admission.{given-append}
-use Rattle.listing.specs.Placed.{placed}
-use Rattle.image.specs.Decode.{badForm, partsOf}
-use Rattle.refusals.specs.Numbers.{numberOf, unlessRefused}
-use Rattle.refusals.specs.declared.Refusal.{Refusal}
-use Rattle.refusals.specs.declared.Refusal.the-variants.{Malformed}
-use Rattle.refusals.specs.declared.Admission.the-variants.{Refused}
-use Rattle.state.specs.Tests.{partsNumber}
-use Rattle.refusals.proofs.Refused.{on-refusal, still-refused, tested-later}
+use Rattle.lent.specs.Placed.{placed}
+use Rattle.image_form.specs.Decode.{badForm, partsOf}
+use Rattle.answers.specs.Numbers.{numberOf, unlessRefused}
+use Rattle.answers.specs.declared.Refusal.{Refusal}
+use Rattle.answers.specs.declared.Refusal.the-variants.{Malformed}
+use Rattle.answers.specs.declared.Admission.the-variants.{Refused}
+use Rattle.answers.proofs.Refused.{on-refusal, still-refused, tested-later}
 use Rattle.search.specs.declared.Search.{Search}
-use Rattle.search.specs.declared.Held.{Held}
-use Rattle.saving.specs.declared.Saving.{Saving}
-use Rattle.saving.specs.declared.Saving.the-variants as Saving
-use Rattle.saving.specs.Saved.{bufferNumber, Saved}
-use Rattle.search.specs.Searches.{partsOfSearch, stored, blank}
-use Rattle.search.specs.Calls.{handedTests, handedNumber, imageOf, saveNumber, Saves, HeldWith, loadNumber, Loads}
+use Rattle.search.specs.declared.SearchResult.{SearchResult}
+use Rattle.answers.specs.declared.Saving.{Saving}
+use Rattle.answers.specs.declared.Saving.the-variants as Saving
+use Rattle.image_write.specs.Saved.{bufferNumber, Saved}
+use Rattle.search.specs.Searches.{partsOfSearch, stored, blankSearch}
+use Rattle.search.specs.Calls.{handedTests, handedNumber, imageOf, saveNumber, Saves, ResultWith, loadNumber, Loads}
 use Rattle.search.proofs.Handed.{handed-numbered}
 
 -- ---- save
 
 module _ (s : Search) (buffer : List ℕ) where
   save-number : saveNumber s buffer ≡ unlessRefused (handedNumber s) (bufferNumber (partsOfSearch s) buffer) (handedNumber s)
-  unfolding saveNumber saveTests handedNumber handedTests bufferNumber given
-  save-number = given-append (handedTests s) (test 10 (ltb (length buffer) (length (imageOf s))) ∷ []) (handed-numbered s)
+  unfolding saveNumber saveTests handedNumber
+  save-number = given-append (handedTests s) (bufferTests (length buffer) (length (imageOf s))) (handed-numbered s)
 
   -- a search that is not taken leaves the buffer as it was
   pub saved-refused : (refusal : Refusal) → numberOf refusal ≡ handedNumber s
@@ -52,12 +50,12 @@ module _ (s : Search) (buffer : List ℕ) where
 
 -- ---- load
 
-pub loaded-bad : (bytes : List ℕ) → badForm bytes ≡ true → Loads bytes (record { admission = Refused Malformed; search = blank })
-unfolding loadNumber loadTests given
+pub loaded-bad : (bytes : List ℕ) → badForm bytes ≡ true → Loads bytes (record { admission = Refused Malformed; search = blankSearch })
+unfolding loadNumber loadTests formTests given
 loaded-bad bytes bad =
-    let nine : 9 ≡ loadNumber bytes = rw bad refl in
-    record { number = nine; search = on-refusal Malformed (loadNumber bytes) (stored (partsOf bytes)) blank nine }
+    let number : numberOf Malformed ≡ loadNumber bytes = rw bad refl in
+    record { number = number; search = on-refusal Malformed (loadNumber bytes) (stored (partsOf bytes)) blankSearch number }
 
-pub loaded-good : (bytes : List ℕ) (r : Held) → badForm bytes ≡ false → HeldWith (partsOf bytes) r → Loads bytes r
-unfolding loadNumber loadTests given partsNumber
+pub loaded-good : (bytes : List ℕ) (r : SearchResult) → badForm bytes ≡ false → ResultWith (partsOf bytes) r → Loads bytes r
+unfolding loadNumber loadTests formTests given
 loaded-good bytes r good held = record { number = rw good (held .number); search = rw good (held .search) }

@@ -1,13 +1,9 @@
 -- A search: document 01, "A search and its calls".
-use mathlib.Core.Bool.{Bool}
 use mathlib.Core.List.{List, []}
 use Prim.Native.Nat.{ℕ}
-use lib.Dec.{ltb}
 use lib.ListN.{length, take}
-use Rattle.jumbled.specs.Refusals.{Test, test}
-use Rattle.image.specs.Image.{Parts, partsWith}
-use Rattle.state.specs.Stored.{padded}
-use Rattle.state.specs.Tests.{wrongTail}
+use Rattle.image_form.specs.Image.{Parts, partsWith}
+use Rattle.search_state.specs.Stored.{padded}
 use Rattle.search.specs.declared.Search.{Search}
 
 -- Its five parts: "pattern, k, method, total n (32 bits), and the tail". Two searches are equal when these five are.
@@ -34,13 +30,5 @@ stored parts =
     }
 
 -- "The blank search has pattern length 0, k 0, method 1, n 0, no tail and every stored byte 0"
-abbrev pub blank : Search
-blank = stored (partsWith [] 0 1 0 [])
-
--- 9 of a search handed in: the tail length isn't min(n, m − 1)
-abbrev pub badTail : Search → Bool
-badTail s = wrongTail (s .«pattern_len») (s .total) (s .«tail_len»)
-
--- 1 of a search handed in, whose pattern length is over 64: no pattern of that length is stored
-abbrev pub tooLongPattern : Search → Test
-tooLongPattern s = test 1 (ltb 64 (s .«pattern_len»))
+abbrev pub blankSearch : Search
+blankSearch = stored (partsWith [] 0 1 0 [])

@@ -1,22 +1,19 @@
 // Searches: document 01, "A search and its calls".
 
 ghost use mathlib.Core.Path.{_≡_};
-ghost use Prim.Native.Nat.{_-_};
-ghost use lib.ListN.{length};
-ghost use Rattle.jumbled.specs.Steps.{steps};
-ghost use Rattle.listing.specs.Found.{Found};
-ghost use Rattle.image.specs.Image.{partsWith};
-ghost use Rattle.refusals.specs.Numbers.{admissionNumber};
-ghost use Rattle.limits.specs.Limits.{limitNumber};
+ghost use Rattle.image_form.specs.Image.{partsWith};
+ghost use Rattle.admit_pattern.specs.Admits.{Admits};
 ghost use Rattle.search.specs.Searches.{patternOf, stored};
-ghost use Rattle.search.specs.Calls.{handedNumber, Opened, Advancing, reached, fedParts, Feeds, SetsMethod, Saves, HeldWith, Loads};
-use pieces::Done;
-use refusals::Admission;
-use refusals::Refusal;
-// Whole search has a crate of its own, and so has the saving of a search's parts; the names that a caller needs are here too.
-pub use saving::Saving;
-pub use whole::Answer;
-pub use whole::whole;
+ghost use Rattle.search.specs.Calls.{handedNumber, Opened, Advancing, Feedable, FoundBy, fedParts, Feeds, SetsMethod, Saves, ResultWith, Loads};
+use admit_pattern::AdmittedPattern;
+use chunk_search::SearchCounts;
+// The answers and whole search have crates of their own; all that a caller names is here too.
+pub use answers::Admission;
+pub use answers::Answer;
+pub use answers::Refusal;
+pub use answers::Saving;
+pub use answers::number_of;
+pub use search_whole::whole;
 
 // A search that goes on from chunk to chunk. Bytes past the lengths are no part of it.
 pub struct Search {
@@ -32,19 +29,19 @@ pub struct Search {
 }
 
 // A search, and whether the call that hands it back was refused.
-pub struct Held {
+pub struct SearchResult {
     pub admission: Admission,
     pub search: Search,
 }
 
 // A search that was fed a chunk, and what was found.
-pub struct Fed {
+pub struct FeedResult {
     pub answer: Answer,
     pub search: Search,
 }
 
 // A search as it came, and what became of its image.
-pub struct Kept {
+pub struct SaveResult {
     pub saving: Saving,
     pub search: Search,
 }
@@ -53,7 +50,7 @@ impl Search {
     // The longest pattern,
     pub const LONGEST_PATTERN: usize = 64;
     // the longest text or chunk,
-    pub const LONGEST_CHUNK: usize = limits::LONGEST_TEXT;
+    pub const LONGEST_CHUNK: usize = admit_chunk::LONGEST_TEXT;
     // and the blank search.
     pub const BLANK: Search = Search {
         pattern: [0; 64],
@@ -66,19 +63,20 @@ impl Search {
     };
 
     // The search with these parts, if they pass the tests of a search: 1 to 5, then 9.
-    fn with_parts(pattern: &[u8], k: u8, method: u8, total: u32, tail: &[u8]) -> Held
-        ensures { λ r. ⌜ HeldWith (partsWith (now (pattern .entry)) k method total (now (tail .entry))) r ⌝ }
+    fn with_parts(pattern: &[u8], k: u8, method: u8, total: u32, tail: &[u8]) -> SearchResult
+        ensures { λ r. ⌜ ResultWith (partsWith (now (pattern .entry)) k method total (now (tail .entry))) r ⌝ }
     {
-        let admission = state::admit_parts(pattern, k, method, total, tail.len());
+        let admitted = search_state::admit_parts(pattern, k, method, total, tail.len());
+        let admission = admitted.admission;
         if let Admission::Refused(_) = admission {
-            return Held {
+            return SearchResult {
                 admission,
                 search: Search::BLANK,
             };
         }
-        let pattern_bytes = state::stored_pattern(pattern);
-        let tail_bytes = state::stored_tail(tail);
-        Held {
+        let pattern_bytes = search_state::stored_pattern(pattern);
+        let tail_bytes = search_state::stored_tail(tail);
+        SearchResult {
             admission,
             search: Search {
                 pattern: pattern_bytes,
@@ -93,7 +91,7 @@ impl Search {
     }
 
     // A search for a pattern, of nothing yet.
-    pub fn open(pattern: &[u8], k: u8, method: u8) -> Held
+    pub fn open(pattern: &[u8], k: u8, method: u8) -> SearchResult
         ensures { λ r. ⌜ Opened (now (pattern .entry)) k method r ⌝ }
     {
         let no_tail = &pattern[..0];
@@ -101,77 +99,80 @@ impl Search {
     }
 
     // The search that an image holds, whatever the order of its entries.
-    pub fn load(bytes: &[u8]) -> Held
+    pub fn load(bytes: &[u8]) -> SearchResult
         ensures { λ r. ⌜ Loads (now (bytes .entry)) r ⌝ }
     {
-        if !decode::well_formed(bytes) {
-            return Held {
+        if !image_read::well_formed(bytes) {
+            return SearchResult {
                 admission: Admission::Refused(Refusal::Malformed),
                 search: Search::BLANK,
             };
         }
         Search::with_parts(
-            decode::body(bytes, 1),
-            decode::tolerance(bytes),
-            decode::method(bytes),
-            decode::total(bytes),
-            decode::body(bytes, 4),
+            image_read::body_of(bytes, 1),
+            image_read::tolerance(bytes),
+            image_read::method(bytes),
+            image_read::total(bytes),
+            image_read::body_of(bytes, 4),
         )
     }
 
     // The tests of a search handed in, which may have been filled in by hand: 1 to 5, then 9.
-    fn checked(self) -> Admission
-        ensures { λ r. ⌜ admissionNumber r ≡ handedNumber self ⌝ }
+    fn checked(self) -> AdmittedPattern
+        ensures { λ r. ⌜ Admits (patternOf self) (handedNumber self) r ⌝ }
     {
         let len = self.pattern_len;
         if Search::LONGEST_PATTERN < len {
-            return Admission::Refused(Refusal::PatternLength);
+            return admit_pattern::refused_pattern(Refusal::PatternLength);
         }
         let pattern = self.pattern;
         let total = self.total;
-        state::admit_parts(&pattern[..len], self.k, self.method, total, self.tail_len)
+        search_state::admit_parts(&pattern[..len], self.k, self.method, total, self.tail_len)
     }
 
     // The same search, to go on by another method.
-    pub fn set_method(self, method: u8) -> Held
+    pub fn set_method(self, method: u8) -> SearchResult
         ensures { λ r. ⌜ SetsMethod self method r ⌝ }
     {
-        let admission = self.checked();
+        let admitted = self.checked();
+        let admission = admitted.admission;
         if let Admission::Refused(_) = admission {
-            return Held {
+            return SearchResult {
                 admission,
                 search: self,
             };
         }
+        let counts = admitted.counts;
         let pattern = self.pattern;
         let len = self.pattern_len;
-        let change = admit::admit_method(&pattern[..len], self.k, method);
+        let change = admit_pattern::admit_method(&pattern[..len], &counts, self.k, method);
         if let Admission::Refused(_) = change {
-            return Held {
+            return SearchResult {
                 admission: change,
                 search: self,
             };
         }
         let mut changed = self;
         changed.method = method;
-        Held {
+        SearchResult {
             admission: change,
             search: changed,
         }
     }
 
     // The positions of the windows that end in the chunk, in the list's first places.
-    fn searched(self, chunk: &[u8], list: &mut [u32]) -> Done
-        requires { ⌜ (handedNumber self ≡ 0) × (limitNumber (self .total) (length (now chunk)) (length (now list)) ≡ 0) ⌝ }
-        ensures { λ r. ⌜ Found (steps (patternOf self) (self .k) (self .method) (reached self (now (chunk .entry)))) (self .total - self .«tail_len») (now (list .entry)) (now (list .exit)) r ⌝ }
+    fn searched(self, counts: &[u8; 256], chunk: &[u8], list: &mut [u32]) -> SearchCounts
+        requires { ⌜ Feedable self (now counts) (now chunk) (now list) ⌝ }
+        ensures { λ r. ⌜ FoundBy self (now (chunk .entry)) (now (list .entry)) (now (list .exit)) r ⌝ }
     {
         let pattern = self.pattern;
         let len = self.pattern_len;
         let tail = self.tail;
         let tail_len = self.tail_len;
         let base = self.total as usize - tail_len;
-        pieces::search_pieces(
+        chunk_search::search_chunk(
             &pattern[..len],
+            counts,
             self.k,
             self.method,
             &tail[..tail_len],
@@ -191,9 +192,9 @@ impl Search {
         let tail = self.tail;
         let tail_len = self.tail_len;
         let total = self.total as usize + chunk.len();
-        let keep = state::tail_length(len, total);
-        let pattern_bytes = state::stored_pattern(&pattern[..len]);
-        let tail_bytes = state::next_tail(&tail[..tail_len], chunk, keep);
+        let keep = search_state::tail_length(len, total);
+        let pattern_bytes = search_state::stored_pattern(&pattern[..len]);
+        let tail_bytes = search_state::next_tail(&tail[..tail_len], chunk, keep);
         Search {
             pattern: pattern_bytes,
             pattern_len: len,
@@ -206,40 +207,43 @@ impl Search {
     }
 
     // A chunk more: the positions of the windows that end in it, in the list's first places.
-    pub fn feed(self, chunk: &[u8], list: &mut [u32]) -> Fed
+    pub fn feed(self, chunk: &[u8], list: &mut [u32]) -> FeedResult
         ensures { λ r. ⌜ Feeds self (now (chunk .entry)) (now (list .entry)) (now (list .exit)) r ⌝ }
     {
-        let admission = self.checked();
+        let admitted = self.checked();
+        let admission = admitted.admission;
         if let Admission::Refused(refusal) = admission {
-            return Fed {
+            return FeedResult {
                 answer: Answer::Refused(refusal),
                 search: self,
             };
         }
-        let limits = limits::limits(self.total, chunk.len(), list.len());
+        let limits = admit_chunk::limits(self.total, chunk.len(), list.len());
         if let Admission::Refused(refusal) = limits {
-            return Fed {
+            return FeedResult {
                 answer: Answer::Refused(refusal),
                 search: self,
             };
         }
-        let done = self.searched(chunk, list);
-        Fed {
+        let counts = admitted.counts;
+        let search_counts = self.searched(&counts, chunk, list);
+        FeedResult {
             answer: Answer::Listed {
-                found: done.found,
-                looks: done.looks,
+                found: search_counts.found,
+                inspections: search_counts.inspections,
             },
             search: self.advanced(chunk),
         }
     }
 
     // The search's image in the buffer's first bytes, and the search as it came.
-    pub fn save(self, buffer: &mut [u8]) -> Kept
+    pub fn save(self, buffer: &mut [u8]) -> SaveResult
         ensures { λ r. ⌜ Saves self (now (buffer .entry)) (now (buffer .exit)) r ⌝ }
     {
-        let admission = self.checked();
+        let admitted = self.checked();
+        let admission = admitted.admission;
         if let Admission::Refused(refusal) = admission {
-            return Kept {
+            return SaveResult {
                 saving: Saving::Refused(refusal),
                 search: self,
             };
@@ -248,7 +252,7 @@ impl Search {
         let len = self.pattern_len;
         let tail = self.tail;
         let tail_len = self.tail_len;
-        let saving = saving::save_parts(
+        let saving = image_write::save_parts(
             &pattern[..len],
             self.k,
             self.method,
@@ -256,7 +260,7 @@ impl Search {
             &tail[..tail_len],
             buffer,
         );
-        Kept {
+        SaveResult {
             saving,
             search: self,
         }

@@ -1,8 +1,8 @@
 -- The bytes that a search is digested as (tools/vectors_stream.py).
 use mathlib.Core.List.{List}
 use Prim.Native.Nat.{ℕ}
-use Rattle.cases.specs.declared.Fields.{Fields}
-use Rattle.digests.specs.Digests.{fieldBytes}
+use Rattle.tests_stream.specs.declared.cases.Fields.{Fields}
+use Rattle.tests_outcomes.specs.Digests.{fieldBytes}
 use Rattle.search.specs.declared.Search.{Search}
 
 -- all that it stores, field by field

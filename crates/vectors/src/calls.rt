@@ -1,23 +1,23 @@
 // The calls that the cases ask for.
 ghost use mathlib.Core.Path.{_≡_};
-ghost use Prim.Native.Nat.{_≤_, _<_};
+ghost use Prim.Native.Nat.{_<_};
 ghost use lib.ListN.{length};
-use crate::answers::admitted;
-use crate::answers::answered;
-use crate::answers::saved;
+use crate::from_answers::admitted;
+use crate::from_answers::answered;
+use crate::from_answers::saved;
 use crate::searches::digest_search;
 use crate::searches::search_of;
-use cases::Case;
-use cases::HAND;
-use cases::read_fields;
-use digests::digest_bytes;
-use digests::digest_list;
-use fillings::fill_buffer;
-use outcomes::Outcome;
-use search::Fed;
-use search::Held;
-use search::Kept;
+use search::FeedResult;
+use search::SaveResult;
 use search::Search;
+use search::SearchResult;
+use tests_outcomes::Outcome;
+use tests_outcomes::digest_bytes;
+use tests_outcomes::digest_list;
+use tests_stream::cases::Case;
+use tests_stream::cases::HAND;
+use tests_stream::cases::read_fields;
+use tests_stream::fill_buffer;
 
 // The longest buffer of a save.
 const LONGEST_IMAGE: usize = 512;
@@ -32,7 +32,7 @@ pub struct Called {
 }
 
 // What open, set method and load gave.
-fn held(given: Held) -> Called {
+fn admission_called(given: SearchResult) -> Called {
     let admission = given.admission;
     let search = given.search;
     Called {
@@ -42,7 +42,7 @@ fn held(given: Held) -> Called {
 }
 
 // What feed gave, after a list with this digest.
-fn fed_on(fed: Fed, digest: u64) -> Called
+fn answer_called(fed: FeedResult, digest: u64) -> Called
     requires { ⌜ digest < 72057594037927931 ⌝ }
 {
     let answer = fed.answer;
@@ -53,45 +53,34 @@ fn fed_on(fed: Fed, digest: u64) -> Called
     }
 }
 
-fn call_feed(before: Search, piece: &[u8], list: &mut [u32]) -> Called {
-    let fed = before.feed(piece, list);
-    fed_on(fed, digest_list(0, list))
+fn call_feed(before: Search, chunk: &[u8], list: &mut [u32]) -> Called {
+    let fed = before.feed(chunk, list);
+    answer_called(fed, digest_list(0, list))
 }
 
 // What save gave, after a buffer with this digest.
-fn kept_on(kept: Kept, digest: u64) -> Called
+fn saving_called(result: SaveResult, digest: u64) -> Called
     requires { ⌜ digest < 72057594037927931 ⌝ }
 {
-    let saving = kept.saving;
-    let search = kept.search;
+    let saving = result.saving;
+    let search = result.search;
     Called {
         search,
         got: saved(saving, digest_search(digest, search)),
     }
 }
 
-// No case asks for more: `shape_of` says so.
-fn image_room(places: usize) -> usize
-    ensures { λ r. ⌜ r ≤ 512 ⌝ }
-{
-    if places < LONGEST_IMAGE {
-        places
-    } else {
-        LONGEST_IMAGE
-    }
-}
-
-// Saves into a buffer of so many bytes.
+// Saves into a buffer of so many bytes. No case asks for more than the longest image: `shape_of` says so.
 fn call_save(before: Search, places: usize) -> Called {
     let mut bytes = [0u8; LONGEST_IMAGE];
-    let room = image_room(places);
+    let room = lent::least(places, LONGEST_IMAGE);
     fill_buffer(&mut bytes, room);
     save_into(before, &mut bytes[..room])
 }
 
 fn save_into(before: Search, buffer: &mut [u8]) -> Called {
-    let kept = before.save(buffer);
-    kept_on(kept, digest_bytes(0, buffer))
+    let result = before.save(buffer);
+    saving_called(result, digest_bytes(0, buffer))
 }
 
 fn call_whole(pattern: &[u8], k: u8, method: u8, text: &[u8], list: &mut [u32]) -> Outcome {
@@ -109,7 +98,7 @@ fn report_room() -> [u8; REPORT_ROOM]
 // The length of the output, and the digest of that.
 fn call_report(input: &[u8]) -> Outcome {
     let mut output = report_room();
-    let written = report::report(input, &mut output);
+    let written = program_report::report(input, &mut output);
     Outcome {
         number: 0,
         a: written as u64,
@@ -119,7 +108,7 @@ fn call_report(input: &[u8]) -> Outcome {
 }
 
 // A number that a call without refusals gives.
-fn counted(a: usize) -> Outcome {
+fn number_outcome(a: usize) -> Outcome {
     Outcome {
         number: 0,
         a: a as u64,
@@ -136,13 +125,19 @@ fn width_of(pattern: &[u8], k: u8, method: u8) -> usize {
     if 64 < k {
         return 0;
     }
-    widths::field_bits(pattern, k as usize, method)
+    let counts = table_parikh::counts(pattern);
+    table_widths::field_bits(pattern, &counts, k as usize, method)
 }
 
-// Whether method 5 takes a candidate for a match without verifying it.
+// Whether method 5 takes a candidate for a match without verifying it. No longer pattern gets so far.
 fn exact(pattern: &[u8]) -> usize {
-    let table = heap::heap_table(pattern);
-    if table.exact { 1 } else { 0 }
+    if 64 < pattern.len() {
+        return 0;
+    }
+    let counts = table_parikh::counts(pattern);
+    let mut values = [0u64; 256];
+    let target = table_heap::fill_values(pattern, &counts, &mut values);
+    if target.exact { 1 } else { 0 }
 }
 
 // The calls that no search is handed to.
@@ -157,8 +152,8 @@ fn call_without(
     match op {
         1 => call_whole(pattern, k, method, text, list),
         8 => call_report(text),
-        9 => counted(width_of(pattern, k, method)),
-        _ => counted(exact(pattern)),
+        9 => number_outcome(width_of(pattern, k, method)),
+        _ => number_outcome(exact(pattern)),
     }
 }
 
@@ -172,14 +167,14 @@ pub fn make_call(
 ) -> Called {
     let op = case.op;
     match op {
-        2 => held(Search::open(pattern, case.k, case.method)),
+        2 => admission_called(Search::open(pattern, case.k, case.method)),
         3 => call_feed(search, text, list),
-        4 => held(search.set_method(case.method)),
+        4 => admission_called(search.set_method(case.method)),
         5 => call_save(search, case.places),
-        6 => held(Search::load(text)),
+        6 => admission_called(Search::load(text)),
         HAND => Called {
             search: search_of(read_fields(text)),
-            got: counted(0),
+            got: number_outcome(0),
         },
         _ => Called {
             search,

@@ -4,27 +4,27 @@ ghost use mathlib.Core.Path.{_≡_};
 ghost use Prim.Native.Nat.{_+_, _^_, _≤_, _<_};
 ghost use lib.ListN.{length};
 
-mod answers;
 mod calls;
+mod from_answers;
 mod searches;
 
 use calls::make_call;
-use cases::HAND;
-use cases::read_case;
-use fillings::fill_list;
 use libc::STDIN_FILENO;
-use outcomes::Outcome;
-use outcomes::agree;
-use outcomes::print_difference;
-use outcomes::print_malformed;
-use outcomes::print_tally;
-use outcomes::read_outcome;
 use search::Search;
+use tests_outcomes::Outcome;
+use tests_outcomes::agree;
+use tests_outcomes::print_difference;
+use tests_outcomes::print_malformed;
+use tests_outcomes::print_tally;
+use tests_outcomes::read_outcome;
+use tests_stream::cases::HAND;
+use tests_stream::cases::read_case;
+use tests_stream::fill_list;
 
 // The longest stream; what follows isn't read. The longest text and the longest list of a case.
 const LONGEST_STREAM: usize = 524288;
 
-const LONGEST_TEXT: usize = 65537;
+const LONGEST_CASE_TEXT: usize = 65537;
 
 // A case that was run: what its call came to, what is stored, the search that it left, and the place after it.
 struct Step {
@@ -42,16 +42,16 @@ struct Tally {
 }
 
 // Room for the longest text, and for the longest list. Their lengths come by a law, since the prover would count the places one by one.
-fn text_room() -> [u8; LONGEST_TEXT]
+fn text_room() -> [u8; LONGEST_CASE_TEXT]
     ensures { λ r. ⌜ 65537 ≡ length r ⌝ }
 {
-    [0; LONGEST_TEXT]
+    [0; LONGEST_CASE_TEXT]
 }
 
-fn list_room() -> [u32; LONGEST_TEXT]
+fn list_room() -> [u32; LONGEST_CASE_TEXT]
     ensures { λ r. ⌜ 65537 ≡ length r ⌝ }
 {
-    [0; LONGEST_TEXT]
+    [0; LONGEST_CASE_TEXT]
 }
 
 // Runs the case at a place. One that can't be read is run with what could be read of it, and leads to a place past the stream's end.
@@ -114,17 +114,17 @@ fn run(stream: &[u8]) -> Tally
         if stream.len() <= at {
             break;
         }
-        let done = run_case(stream, at, search);
-        if stream.len() < done.next {
+        let step = run_case(stream, at, search);
+        if stream.len() < step.next {
             print_malformed(at);
             break;
         }
-        let got = done.got;
-        let expected = done.expected;
-        let left = done.search;
-        tally = compare(tally, done.op, got, expected);
+        let got = step.got;
+        let expected = step.expected;
+        let left = step.search;
+        tally = compare(tally, step.op, got, expected);
         search = left;
-        at = done.next;
+        at = step.next;
     }
     tally
 }

@@ -1,11 +1,11 @@
 // A search as the stream has it: filled in by hand, and digested.
 ghost use mathlib.Core.Path.{_≡_};
 ghost use Prim.Native.Nat.{_<_};
-ghost use Rattle.digests.specs.Digests.{Digested};
+ghost use Rattle.tests_outcomes.specs.Digests.{Digested};
 ghost use Rattle.vectors.specs.Searches.{searchBytes, handBytes};
-use cases::Fields;
-use digests::digest_fields;
 use search::Search;
+use tests_outcomes::digest_fields;
+use tests_stream::cases::Fields;
 
 // The search with the fields that a case fills in by hand.
 pub fn search_of(fields: Fields) -> Search

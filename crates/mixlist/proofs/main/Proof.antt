@@ -4,12 +4,12 @@ use mathlib.Core.Path.{sym}
 use Prim.Native.Nat.{_≤_}
 use lib.ListN.{length}
 use lib.Seq.{length-take-le}
-use Rattle.report.proofs.Room.{output-inside}
+use Rattle.program_report.proofs.Room.{output-inside}
 use Rattle.mixlist.proofs.main.Statement.{statement}
 use Rattle.mixlist.proofs.main.Tie as tie
 
 inside : (c : tie.After-report) → c .report .result ≤ length (c .report .last .1 .0)
-inside c = output-inside (c .report .ensures) (search needs)
+inside c = output-inside _ (c .report .ensures) (search needs)
 
 slice-aggregate-read-full : tie.Need-slice-aggregate-read-full
 slice-aggregate-read-full c = search needs

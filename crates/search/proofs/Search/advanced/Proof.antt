@@ -3,10 +3,10 @@ use mathlib.Core.Path.{_≡_, refl, sym, ap, _∙_}
 use Prim.Native.Nat.{ℕ, _+_}
 use native.Mathlib.Omega.{arith}
 use lib.ListN.{length, length-take, length-append}
-use Rattle.search.specs.declared.Search.{Search}
 use Rattle.search.specs.Searches.{patternOf, tailOf}
-use Rattle.state.specs.Stored.{lastOf, tailLength}
-use Rattle.search.specs.Calls.{reached}
+use Rattle.jumbled.specs.Refusals.{tailLength}
+use Rattle.search_state.specs.Stored.{lastOf}
+use Rattle.search.specs.Calls.{searchedText}
 use Rattle.search.proofs.Feeding.{length-last}
 use borrow.Author.Needs.{needs}
 use Rattle.search.proofs.Search.advanced.Statement.{statement}
@@ -81,8 +81,8 @@ returns c =
     let chunk = start .args .chunk .now in
     let m : length (patternOf held) ≡ held .«pattern_len» = pattern-length joined in
     let keep : tailLength (length (patternOf held)) (held .total + length chunk) ≡ joined .tail-length .result = ap (λ (n : ℕ). tailLength n (held .total + length chunk)) m ∙ sym (joined .tail-length .ensures) in
-    let few : length (lastOf (joined .tail-length .result) (reached held chunk)) ≡ joined .tail-length .result =
-    length-last (joined .tail-length .result) (reached held chunk) (omega (arith, joined .tail-length .ensures, tail-length joined, length-append (tailOf held) chunk, start .pre .tail-right)) in
+    let few : length (lastOf (joined .tail-length .result) (searchedText held chunk)) ≡ joined .tail-length .result =
+    length-last (joined .tail-length .result) (searchedText held chunk) (omega (arith, joined .tail-length .ensures, tail-length joined, length-append (tailOf held) chunk, start .pre .tail-right)) in
     rw (c .before .before .stored-pattern .ensures, c .next-tail .ensures, keep, few, m) refl
 
 pub advanced-spec : {M : Type 1} → statement M

@@ -2,7 +2,7 @@
 use mathlib.Core.Path.{_≡_, sym, _∙_}
 use mathlib.Core.Bool.{false}
 use borrow.Author.Tests.{not-true, not-false}
-use Rattle.image.specs.Decode.{badForm}
+use Rattle.image_form.specs.Decode.{badForm}
 use Rattle.search.proofs.Images.{loaded-bad, loaded-good}
 use borrow.Author.Needs.{needs}
 use Rattle.search.proofs.Search.load.Statement.{statement}
@@ -21,8 +21,8 @@ returns c =
     loaded-bad (c .before .before .before .args .bytes .now)
     (not-false (badForm (c .before .before .before .args .bytes .now)) (sym (c .before .well-formed .ensures) ∙ not-true (c .before .well-formed .result) (c .if1 .taken)))
 
-body-requires : tie.Need-body-requires
-body-requires c κs = formed c
+body-of-requires : tie.Need-body-of-requires
+body-of-requires c κs = formed c
 
 tolerance-requires : tie.Need-tolerance-requires
 tolerance-requires c κs = formed (c .before)
@@ -33,8 +33,8 @@ method-requires c κs = formed (c .before .before)
 total-requires : tie.Need-total-requires
 total-requires c κs = formed (c .before .before .before)
 
-body-requires-2 : tie.Need-body-requires-2
-body-requires-2 c κs = formed (c .before .before .before .before)
+body-of-requires-2 : tie.Need-body-of-requires-2
+body-of-requires-2 c κs = formed (c .before .before .before .before)
 
 with-parts-requires : tie.Need-with-parts-requires
 with-parts-requires c κs = search needs
@@ -44,7 +44,7 @@ returns-2 c =
     let body2 = c .before in
     loaded-good (c .before .before .before .before .before .before .before .before .before .args .bytes .now) (c .with-parts .result) (formed (c .before .before .before .before .before .before))
     (rw
-    (c .before .before .before .before .before .body .ensures, c .before .before .before .before .tolerance .ensures, c .before .before .before .method .ensures, c .before .before .total .ensures, body2 .body2 .ensures)
+    (c .before .before .before .before .before .body-of .ensures, c .before .before .before .before .tolerance .ensures, c .before .before .before .method .ensures, c .before .before .total .ensures, body2 .body-of2 .ensures)
     at (c .with-parts .ensures))
 
 pub load-spec : {M : Type 1} → statement M
@@ -53,10 +53,10 @@ load-spec =
     (tie.spec
     well-formed-requires
     returns
-    body-requires
+    body-of-requires
     tolerance-requires
     method-requires
     total-requires
-    body-requires-2
+    body-of-requires-2
     with-parts-requires
     returns-2)

@@ -2,11 +2,11 @@
 use mathlib.Core.Path.{_≡_, sym, ap, _∙_}
 use native.Mathlib.Omega.{arith}
 use lib.ListN.{length}
-use Rattle.refusals.specs.Numbers.{admissionNumber}
+use Rattle.answers.specs.Numbers.{admissionNumber}
 use Rattle.search.specs.declared.Search.{Search}
 use Rattle.search.specs.Searches.{patternOf, tailOf}
 use Rattle.search.specs.Calls.{handedNumber}
-use Rattle.search.proofs.Handed.{Sound, sound, pattern-length, tail-fits, tail-length}
+use Rattle.search.proofs.Handed.{SoundSearch, sound, pattern-length, tail-fits, tail-length}
 use Rattle.search.proofs.Images.{saved-refused, saved-parts}
 use borrow.Author.Needs.{needs}
 use Rattle.search.proofs.Search.save.Statement.{statement}
@@ -17,11 +17,11 @@ abbrev start-of : tie.After-enum-told → tie.Start
 start-of s = s .before .before .before .before
 
 right : (s : tie.After-enum-told) → handedNumber (start-of s .args .self) ≡ 0
-right s = sym (s .before .before .checked .ensures) ∙ ap admissionNumber (s .enum-told .given .1)
+right s = sym (s .before .before .checked .ensures .number) ∙ ap admissionNumber (s .enum-told .given .1)
 
 -- what is then known of it
 record Known (held : Search) : Type 0 where
-  holds : Sound held
+  holds : SoundSearch held
   pattern-long : length (held .pattern) ≡ 64
   tail-long : length (held .tail) ≡ 63
 
@@ -50,7 +50,7 @@ returns : tie.Need-returns
 returns c =
     let args = c .before .before .before .before .before .args in
     saved-refused (args .self) (args .buffer .now) _
-    (ap admissionNumber (sym (c .before .admission .given .1)) ∙ c .before .before .before .checked .ensures)
+    (ap admissionNumber (sym (c .before .admission .given .1)) ∙ c .before .before .before .checked .ensures .number)
 
 enum-told : tie.Need-enum-told
 enum-told c = search needs

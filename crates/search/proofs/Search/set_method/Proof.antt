@@ -3,7 +3,7 @@ use mathlib.Core.Path.{_≡_, sym, ap, _∙_}
 use native.Mathlib.Omega.{arith}
 use lib.ListN.{length}
 use Rattle.jumbled.proofs.Admission.{admitted}
-use Rattle.refusals.specs.Numbers.{admissionNumber}
+use Rattle.answers.specs.Numbers.{admissionNumber}
 use Rattle.search.specs.Searches.{patternOf}
 use Rattle.search.specs.Calls.{handedNumber}
 use Rattle.search.proofs.Handed.{sound, pattern-length, method-refused-early, method-refused-late, method-set}
@@ -16,7 +16,7 @@ abbrev start-of : tie.After-enum-told2 → tie.Start
 start-of s = s .before .before .before
 
 right : (s : tie.After-enum-told2) → handedNumber (start-of s .args .self) ≡ 0
-right s = sym (s .before .before .checked .ensures) ∙ ap admissionNumber (s .enum-told2 .given .1)
+right s = sym (s .before .before .checked .ensures .number) ∙ ap admissionNumber (s .enum-told2 .given .1)
 
 pattern-long : (c : tie.Start) → length (c .args .self .pattern) ≡ 64
 pattern-long c = search needs
@@ -30,33 +30,36 @@ enum-told c = search needs
 returns : tie.Need-returns
 returns c =
     let args = c .before .before .before .args in
-    method-refused-early (args .self) (args .method) _ _ (c .enum-told .given .1) (c .before .before .checked .ensures)
+    method-refused-early (args .self) (args .method) _ _ (c .enum-told .given .1) (c .before .before .checked .ensures .number)
 
 enum-told-2 : tie.Need-enum-told-2
 enum-told-2 c = search needs
 
 array-share-prefix-pattern : tie.Need-array-share-prefix-pattern
 array-share-prefix-pattern c =
-    let start = start-of (c .before) in
-    omega (arith, sound (start .args .self) (right (c .before)) .short, pattern-long start)
+    let told = c .before .before in
+    let start = start-of told in
+    omega (arith, sound (start .args .self) (right told) .short, pattern-long start)
 
 slice-aggregate-admit-method : tie.Need-slice-aggregate-admit-method
 slice-aggregate-admit-method c =
-    let start = start-of (c .before .before) in
-    sym (pattern-length (sound (start .args .self) (right (c .before .before))) (pattern-long start))
+    let told = c .before .before .before in
+    let start = start-of told in
+    sym (pattern-length (sound (start .args .self) (right told)) (pattern-long start))
 
 admit-method-requires : tie.Need-admit-method-requires
 admit-method-requires c κs =
-    let held = start-of (c .before .before) .args .self in
-    let admits = admitted (patternOf held) (held .k) (held .method) (sound held (right (c .before .before)) .admits) in
-    (admits .short, omega (arith, admits .within, admits .short))
+    let told : tie.After-enum-told2 = c .before .before .before .before in
+    let held = start-of told .args .self in
+    let admits = admitted (patternOf held) (held .k) (held .method) (sound held (right told) .admits) in
+    (admits .short, told .before .before .checked .ensures .counts (right told), omega (arith, admits .within, admits .short))
 
 enum-told-3 : tie.Need-enum-told-3
 enum-told-3 c = search needs
 
 returns-2 : tie.Need-returns-2
 returns-2 c =
-    let told : tie.After-enum-told2 = c .before .before .before .before .before in
+    let told : tie.After-enum-told2 = c .before .before .before .before .before .before .before in
     let args = start-of told .args in
     method-refused-late (args .self) (args .method) _ (right told) (c .before .before .admit-method .ensures) _ (c .enum-told3 .given .1)
 
@@ -65,7 +68,7 @@ enum-told-4 c = search needs
 
 returns-3 : tie.Need-returns-3
 returns-3 c =
-    let told : tie.After-enum-told2 = c .before .before .before .before .before in
+    let told : tie.After-enum-told2 = c .before .before .before .before .before .before .before in
     let args = start-of told .args in
     method-set (args .self) (args .method) _ (right told) (c .before .before .admit-method .ensures) (c .enum-told4 .given .1)
 

@@ -2,12 +2,11 @@
 use mathlib.Core.Path.{_≡_, sym, ap, _∙_}
 use native.Mathlib.Omega.{arith}
 use lib.ListN.{length}
-use Rattle.jumbled.proofs.Admission.{Admitted, admitted}
-use Rattle.refusals.specs.Numbers.{admissionNumber}
-use Rattle.image.specs.Image.{Parts, partsWith}
-use Rattle.state.specs.Stored.{tailLength}
-use Rattle.state.proofs.Parts.{parts-right}
-use Rattle.search.specs.Calls.{numberOfParts}
+use Rattle.jumbled.specs.Refusals.{tailLength}
+use Rattle.jumbled.proofs.Admission.{Admitted, admitted, search-taken}
+use Rattle.answers.specs.Numbers.{admissionNumber}
+use Rattle.image_form.specs.Image.{Parts, partsWith}
+use Rattle.search.specs.Calls.{partsTests, partsNumber}
 use Rattle.search.proofs.Handed.{held-refused, held-accepted}
 use borrow.Author.Needs.{needs}
 use Rattle.search.proofs.Search.with_parts.Statement.{statement}
@@ -20,15 +19,17 @@ parts-of c = partsWith (c .args .pattern .now) (c .args .k) (c .args .method) (c
 abbrev start-of : tie.After-enum-told2 → tie.Start
 start-of s = s .before .before .before .before .before
 
-accepted : (s : tie.After-enum-told2) → numberOfParts (parts-of (start-of s)) ≡ 0
-accepted s = sym (s .before .before .admit-parts .ensures) ∙ ap admissionNumber (s .enum-told2 .given .1)
+accepted : (s : tie.After-enum-told2) → partsNumber (parts-of (start-of s)) ≡ 0
+unfolding partsTests
+accepted s = sym (s .before .before .admit-parts .ensures .number) ∙ ap admissionNumber (s .enum-told2 .given .1)
 
 right : (s : tie.After-enum-told2)
     → let args = start-of s .args in
     Admitted (args .pattern .now) (args .k) (args .method) × (length (args .tail .now) ≡ tailLength (length (args .pattern .now)) (args .total))
+unfolding partsTests
 right s =
     let args = start-of s .args in
-    let none = parts-right (args .pattern .now) (args .k) (args .method) (args .total) (length (args .tail .now)) (accepted s) in
+    let none = search-taken (args .pattern .now) (args .k) (args .method) (args .total) (length (args .tail .now)) (accepted s) in
     (admitted (args .pattern .now) (args .k) (args .method) (none .0), none .1)
 
 admit-parts-requires : tie.Need-admit-parts-requires
@@ -38,8 +39,9 @@ enum-told : tie.Need-enum-told
 enum-told c = search needs
 
 returns : tie.Need-returns
+unfolding partsTests
 returns c =
-    held-refused (parts-of (c .before .before .before .before .before)) _ (c .before .before .admit-parts .ensures) _ (c .enum-told .given .1)
+    held-refused (parts-of (c .before .before .before .before .before)) _ (c .before .before .admit-parts .ensures .number) _ (c .enum-told .given .1)
 
 enum-told-2 : tie.Need-enum-told-2
 enum-told-2 c = search needs
@@ -51,10 +53,11 @@ stored-tail-requires : tie.Need-stored-tail-requires
 stored-tail-requires c κs = let parts = right (c .before) in omega (arith, parts .0 .short, parts .1)
 
 returns-2 : tie.Need-returns-2
+unfolding partsTests
 returns-2 c =
     let told : tie.After-enum-told2 = c .before .before in
     rw (c .before .stored-pattern .ensures, c .stored-tail .ensures)
-    (held-accepted (parts-of (start-of told)) _ (told .before .before .admit-parts .ensures) (told .enum-told2 .given .1))
+    (held-accepted (parts-of (start-of told)) _ (told .before .before .admit-parts .ensures .number) (told .enum-told2 .given .1))
 
 pub with-parts-spec : {M : Type 1} → statement M
 with-parts-spec =

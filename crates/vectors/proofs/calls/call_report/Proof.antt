@@ -3,13 +3,13 @@ use mathlib.Core.Path.{sym}
 use Prim.Native.Nat.{_≤_}
 use lib.ListN.{length}
 use lib.Seq.{length-take-le}
-use Rattle.report.proofs.Room.{output-inside}
+use Rattle.program_report.proofs.Room.{output-inside}
 use borrow.Author.Needs.{needs}
 use Rattle.vectors.proofs.calls.call_report.Statement.{statement}
 use Rattle.vectors.proofs.calls.call_report.Tie as tie
 
 inside : (c : tie.After-report) → c .report .result ≤ length (c .report .last .1 .0)
-inside c = output-inside (c .report .ensures) (search needs)
+inside c = output-inside _ (c .report .ensures) (search needs)
 
 report-room-requires : tie.Need-report-room-requires
 report-room-requires c κs = search needs

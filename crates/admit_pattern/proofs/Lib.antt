@@ -1,0 +1,2 @@
+mod Members
+pub mod Refusing

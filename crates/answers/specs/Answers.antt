@@ -1,0 +1,31 @@
+-- Document 01's number and values for each answer: "When a call says no", and "A refusal reports 0 found, 0 looks and, for save, length 0".
+use Prim.Native.Nat.{ℕ}
+use Rattle.answers.specs.Numbers.{numberOf}
+use Rattle.answers.specs.declared.Answer.{Answer}
+use Rattle.answers.specs.declared.Answer.the-variants.{Listed, Refused}
+use Rattle.answers.specs.declared.Saving.{Saving}
+use Rattle.answers.specs.declared.Saving.the-variants as Saving
+
+-- ---- of a search of a text or of a chunk
+
+abbrev pub answerNumber : Answer → ℕ
+answerNumber (Listed found inspections) = 0
+answerNumber (Refused refusal) = numberOf refusal
+
+abbrev pub answerFound : Answer → ℕ
+answerFound (Listed found inspections) = found
+answerFound (Refused refusal) = 0
+
+abbrev pub answerInspections : Answer → ℕ
+answerInspections (Listed found inspections) = inspections
+answerInspections (Refused refusal) = 0
+
+-- ---- of a save
+
+abbrev pub savingNumber : Saving → ℕ
+savingNumber (Saving.Written len) = 0
+savingNumber (Saving.Refused refusal) = numberOf refusal
+
+abbrev pub savingLength : Saving → ℕ
+savingLength (Saving.Written len) = len
+savingLength (Saving.Refused refusal) = 0

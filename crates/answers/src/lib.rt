@@ -1,0 +1,56 @@
+// What the calls answer: why a call is refused, the number that says so, and the values of an answer. Document 01, "When a call says no".
+
+ghost use mathlib.Core.Path.{_≡_};
+ghost use Rattle.answers.specs.Numbers.{numberOf};
+
+// Why a call is refused, in the order of document 01's table; specs/ gives each case its number.
+pub enum Refusal {
+    PatternLength,
+    ToleranceTooLarge,
+    UnknownMethod,
+    ToleranceNotTaken,
+    FieldsTooWide,
+    TextTooLong,
+    TooFewPlaces,
+    TotalTooLarge,
+    Malformed,
+    BufferTooShort,
+    BadRequest,
+}
+
+// The number that document 01 gives a refusal.
+pub fn number_of(refusal: Refusal) -> usize
+    ensures { λ r. ⌜ r ≡ numberOf refusal ⌝ }
+{
+    match refusal {
+        Refusal::PatternLength => 1,
+        Refusal::ToleranceTooLarge => 2,
+        Refusal::UnknownMethod => 3,
+        Refusal::ToleranceNotTaken => 4,
+        Refusal::FieldsTooWide => 5,
+        Refusal::TextTooLong => 6,
+        Refusal::TooFewPlaces => 7,
+        Refusal::TotalTooLarge => 8,
+        Refusal::Malformed => 9,
+        Refusal::BufferTooShort => 10,
+        Refusal::BadRequest => 11,
+    }
+}
+
+// Whether a call is refused that has no other answer: open, set method and load.
+pub enum Admission {
+    Accepted,
+    Refused(Refusal),
+}
+
+// What a search of a text or of a chunk answers.
+pub enum Answer {
+    Listed { found: usize, inspections: usize },
+    Refused(Refusal),
+}
+
+// What a save answers: the image's length.
+pub enum Saving {
+    Written(usize),
+    Refused(Refusal),
+}

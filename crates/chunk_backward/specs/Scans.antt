@@ -1,0 +1,43 @@
+-- The scan of a backward method, by its number, the driver of such scans, and what they go by: document 01, "The five methods", 2 to 4.
+use mathlib.Core.Path.{_≡_}
+use mathlib.Core.Bool.{cond}
+use mathlib.Core.List.{List}
+use Prim.Native.Nat.{ℕ}
+use lib.Dec.{eqb}
+use lib.ListN.{length}
+use Rattle.jumbled.specs.Match.{Bytes, starts}
+use Rattle.jumbled.specs.Scan.{Result, Scanned, backward}
+use Rattle.jumbled.specs.Fields.{layoutOf}
+use Rattle.jumbled.specs.Steps.{bamScan, bam2Scan, abamScan}
+use Rattle.table_packed.specs.Word.{Packed, OwnTops, Packable}
+use Rattle.table_packed.specs.declared.Word.{Word}
+use Rattle.lent.specs.Found.{Found}
+use Rattle.lent.specs.declared.SearchCounts.{SearchCounts}
+use Rattle.lent.specs.declared.Range.{Range}
+use Rattle.loop_backward.specs.Ranges.{RangeScanned}
+use Rattle.loop_backward.specs.declared.Reached.{Reached}
+use Rattle.chunk_seam.specs.Joined.{joined}
+use Rattle.chunk_seam.specs.declared.Split.{Split}
+
+unfoldable pub scanOf : List ℕ → ℕ → ℕ → List ℕ → Scanned
+scanOf P k method = cond (eqb method 2) (bamScan P) (cond (eqb method 3) (bam2Scan P) (abamScan P k))
+
+-- A driver over all window starts of a text
+abbrev pub backwardOver : (List ℕ → Scanned) → ℕ → List ℕ → Result
+backwardOver scanned m T = backward scanned m T 0 (starts m T) 0
+
+-- The word and the tables are those of the pattern P for a backward method. Method 4 alone goes by the top bits.
+pub record Tabled (P : List ℕ) (k method : ℕ) (word : Word) (units tops : List ℕ) : Type 0 where
+  pub packable : Packable P k method
+  pub bytes : Bytes P
+  pub packed : Packed P (layoutOf k method) word units
+  pub own-tops : method ≡ 4 → OwnTops P (layoutOf k method) tops
+
+-- A range of window starts was searched for P by the method
+abbrev pub SearchedFor : List ℕ → (k method : ℕ) → (T : List ℕ) → Range → (before after : List ℕ) → Reached → Type 0
+SearchedFor P k method T range before after r = RangeScanned (scanOf P k method) (length P) T range before after r
+
+-- All windows of the tail, which the seam begins with, and of the chunk after it were
+abbrev pub FoundFor : List ℕ → (k method : ℕ) → (seam chunk : List ℕ) → Split → (before after : List ℕ) → SearchCounts → Type 0
+FoundFor P k method seam chunk split before after r =
+    Found (backwardOver (scanOf P k method) (length P) (joined split seam chunk)) (split .«over_tail» .base) before after r

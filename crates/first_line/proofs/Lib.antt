@@ -1,4 +1,0 @@
--- The laws of the definitions that the functions' proofs cite.
-pub mod Cuts
-pub mod Fields
-pub mod Splits

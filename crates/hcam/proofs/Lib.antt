@@ -1,2 +1,0 @@
-mod Judging
-mod Verifying

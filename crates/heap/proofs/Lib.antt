@@ -1,2 +1,0 @@
-pub mod Products
-pub mod Powers

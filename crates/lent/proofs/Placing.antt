@@ -1,0 +1,91 @@
+-- Laws of `placed` and `shifted`.
+use mathlib.Core.Path.{_≡_, refl, sym, ap, ap₂, _∙_}
+use mathlib.Core.List.{List, [], _∷_, _++_, append-assoc}
+use Prim.Native.Nat.{ℕ, suc, _+_, _≤_, _<_}
+use native.Mathlib.Nat.{add-zero, zero-add, add-assoc}
+use native.Mathlib.Omega.{arith}
+use lib.ListN.{length, getD, take, drop, set, length-append, length-take, length-drop, take-append-drop}
+use lib.Seq.{drop-cons, set-at, take-at, drop-at, drop-drop}
+use Rattle.lent.specs.Placed.{placed, shifted}
+
+regroup : (a b c d : List ℕ) → (a ++ b) ++ (c ++ d) ≡ a ++ ((b ++ c) ++ d)
+regroup a b c d = simp append-assoc
+
+placed-def : (list : List ℕ) (at : ℕ) (numbers : List ℕ) → placed list at numbers ≡ take at list ++ (numbers ++ drop (at + length numbers) list)
+unfolding placed
+placed-def list at numbers = refl
+
+-- nothing put
+pub placed-nil : (list : List ℕ) (at : ℕ) → placed list at [] ≡ list
+unfolding placed
+placed-nil list at = rw (add-zero at) (take-append-drop at list)
+
+module _ (list : List ℕ) (at : ℕ) (numbers : List ℕ) (room : at + length numbers ≤ length list) where
+  front-length : length (take at list ++ numbers) ≡ at + length numbers
+  front-length = omega (arith, length-append (take at list) numbers, length-take at list)
+
+  split : placed list at numbers ≡ (take at list ++ numbers) ++ drop (at + length numbers) list
+  unfolding placed
+  split = sym (append-assoc (take at list) numbers (drop (at + length numbers) list))
+
+  pub length-placed : length (placed list at numbers) ≡ length list
+  length-placed =
+      rw split (omega (arith, length-append (take at list ++ numbers) (drop (at + length numbers) list), front-length, length-drop (at + length numbers) list))
+
+  -- the places that were filled
+  pub take-placed : take (at + length numbers) (placed list at numbers) ≡ take at list ++ numbers
+  take-placed = rw split (take-at (take at list ++ numbers) (drop (at + length numbers) list) (at + length numbers) front-length)
+
+  drop-placed : drop (at + length numbers) (placed list at numbers) ≡ drop (at + length numbers) list
+  drop-placed = rw split (drop-at (take at list ++ numbers) (drop (at + length numbers) list) (at + length numbers) front-length)
+
+  -- more numbers put after them
+  pub placed-placed : (more : List ℕ) → placed (placed list at numbers) (at + length numbers) more ≡ placed list at (numbers ++ more)
+  placed-placed more =
+      placed-def (placed list at numbers) (at + length numbers) more
+      ∙ ap₂ (λ (front back : List ℕ). front ++ (more ++ back)) take-placed past
+      ∙ regroup (take at list) numbers more (drop (at + length (numbers ++ more)) list)
+      ∙ sym (placed-def list at (numbers ++ more))
+    where
+      past : drop (at + length numbers + length more) (placed list at numbers) ≡ drop (at + length (numbers ++ more)) list
+      past =
+          sym (drop-drop (length more) (at + length numbers) (placed list at numbers))
+          ∙ ap (drop (length more)) drop-placed
+          ∙ drop-drop (length more) (at + length numbers) list
+          ∙ ap (λ (n : ℕ). drop n list) (add-assoc at (length numbers) (length more) ∙ ap (λ (n : ℕ). at + n) (sym (length-append numbers more)))
+
+-- one number more
+pub placed-next : (list : List ℕ) (at : ℕ) (numbers : List ℕ) (x : ℕ) → at + length numbers < length list
+    → set (placed list at numbers) (at + length numbers) x ≡ placed list at (numbers ++ (x ∷ []))
+placed-next list at numbers x room =
+    let fits : at + length numbers ≤ length list = omega arith in
+    ap (λ (l : List ℕ). set l (at + length numbers) x) (split list at numbers fits ∙ ap (λ (l : List ℕ). (take at list ++ numbers) ++ l) (drop-cons list (at + length numbers) 0 room))
+    ∙ set-at (take at list ++ numbers) (getD list (at + length numbers) 0) (drop (suc (at + length numbers)) list) x (at + length numbers) (front-length list at numbers fits)
+    ∙ ap (λ (n : ℕ). (take at list ++ numbers) ++ (x ∷ drop n list)) one-more
+    ∙ regroup (take at list) numbers (x ∷ []) (drop (at + length (numbers ++ (x ∷ []))) list)
+    ∙ sym (placed-def list at (numbers ++ (x ∷ [])))
+  where
+    one-more : suc (at + length numbers) ≡ at + length (numbers ++ (x ∷ []))
+    one-more = omega (arith, length-append numbers (x ∷ []))
+
+-- ---- shifted
+
+pub length-shifted : (base : ℕ) (positions : List ℕ) → length (shifted base positions) ≡ length positions
+unfolding shifted
+length-shifted base [] = refl
+length-shifted base (p ∷ ps) = ap suc (length-shifted base ps)
+
+pub shifted-append : (base : ℕ) (ps qs : List ℕ) → shifted base (ps ++ qs) ≡ shifted base ps ++ shifted base qs
+unfolding shifted
+shifted-append base [] qs = refl
+shifted-append base (p ∷ ps) qs = ap (λ (l : List ℕ). (base + p) ∷ l) (shifted-append base ps qs)
+
+pub shifted-shifted : (a b : ℕ) (ps : List ℕ) → shifted a (shifted b ps) ≡ shifted (a + b) ps
+unfolding shifted
+shifted-shifted a b [] = refl
+shifted-shifted a b (p ∷ ps) = ap₂ (λ (q : ℕ) (l : List ℕ). q ∷ l) (sym (add-assoc a b p)) (shifted-shifted a b ps)
+
+pub shifted-zero : (ps : List ℕ) → shifted 0 ps ≡ ps
+unfolding shifted
+shifted-zero [] = refl
+shifted-zero (p ∷ ps) = ap₂ (λ (q : ℕ) (l : List ℕ). q ∷ l) (zero-add p) (shifted-zero ps)

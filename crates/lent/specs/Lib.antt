@@ -1,0 +1,4 @@
+pub mod Placed
+pub mod Loops
+pub mod Found
+pub mod Written

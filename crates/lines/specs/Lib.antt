@@ -1,2 +1,0 @@
--- The lines that the program mixlist prints.
-pub mod Lines

@@ -1,0 +1,4 @@
+pub mod Windows
+pub mod Progress
+pub mod Counting
+pub mod Hashing

@@ -1,0 +1,36 @@
+-- A window by its last byte, and by its first.
+use mathlib.Core.Path.{_≡_, sym, ap, _∙_}
+use mathlib.Core.List.{List, [], _∷_, _++_}
+use Prim.Native.Nat.{ℕ, suc, _+_, _-_, _≤_}
+use native.Mathlib.Numerals.{add-one}
+use native.Mathlib.Omega.{arith}
+use lib.ListN.{length, getD, take, drop, length-drop}
+use lib.Seq.{take-suc, drop-cons, getD-drop}
+use Rattle.jumbled.specs.Match.{window}
+use Rattle.loop_forward.specs.Windows.{windowPrefix}
+
+-- a window as a part of the text from its start to its end
+pub window-part : (m : ℕ) (T : List ℕ) (s : ℕ) → take (s + m - s) (drop s T) ≡ window m T s
+window-part m T s = ap (λ (n : ℕ). take n (drop s T)) same
+  where
+    same : s + m - s ≡ m
+    same = omega arith
+
+module _ (m : ℕ) (T : List ℕ) (s : ℕ) (some : 1 ≤ m) (whole : s + m ≤ length T) where
+  one-more : m ≡ suc (m - 1)
+  one-more = omega arith
+
+  pub window-last : window m T s ≡ windowPrefix m T s ++ (getD T (s + m - 1) 0 ∷ [])
+  window-last =
+      ap (λ (n : ℕ). take n (drop s T)) one-more
+      ∙ take-suc (drop s T) (m - 1) 0 (omega (arith, length-drop s T))
+      ∙ ap (λ (b : ℕ). windowPrefix m T s ++ (b ∷ [])) (getD-drop s T (m - 1) 0 ∙ ap (λ (i : ℕ). getD T i 0) same)
+    where
+      same : s + (m - 1) ≡ s + m - 1
+      same = omega arith
+
+  pub window-first : window m T s ≡ getD T s 0 ∷ windowPrefix m T (s + 1)
+  window-first =
+      ap (λ (n : ℕ). take n (drop s T)) one-more
+      ∙ ap (take (suc (m - 1))) (drop-cons T s 0 (omega arith))
+      ∙ ap (λ (n : ℕ). getD T s 0 ∷ take (m - 1) (drop n T)) (sym (add-one s))

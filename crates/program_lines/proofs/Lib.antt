@@ -1,0 +1,3 @@
+-- The laws of the definitions that the functions' proofs cite.
+pub mod Decimals
+pub mod Lines

@@ -1,0 +1,7 @@
+-- The laws of the definitions that the functions' proofs cite.
+pub mod Cuts
+pub mod Fields
+pub mod Splits
+pub mod Texts
+pub mod Requests
+pub mod Answered

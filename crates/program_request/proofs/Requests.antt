@@ -1,0 +1,94 @@
+-- What `parse` answers in each case is what the input asks for.
+use mathlib.Core.Path.{_≡_, refl, sym, ap, _∙_}
+use mathlib.Core.Bool.{Bool, true, false, not, _&&_}
+use mathlib.Core.List.{List, [], _∷_}
+use Prim.Native.Nat.{ℕ, zero, suc, _+_, _-_, _≤_, _<_}
+use native.Mathlib.Nat.{suc-sub-suc, sub-zero, zero-sub}
+use native.Mathlib.Omega.{arith}
+use lib.ListN.{length, take, drop}
+use lib.Seq.{take-nil, length-take-le}
+use borrow.Author.Tests.{lt-ltb, le-ltb}
+use Rattle.jumbled.specs.Refusals.{given, inputTests, lineTests, requestTests}
+use Rattle.program_request.specs.Line.{has, beforeFirst, afterFirst, goodLine, patternField}
+use Rattle.program_request.specs.Request.{lessNewline, firstLine, requestMethod, requestTolerance, requestPattern, requestText, badLine, requestNumber}
+use Rattle.program_request.specs.Reading.{LineFields}
+use Rattle.program_request.specs.Parsing.{Asked, asked, Parses, TextEnds}
+use Rattle.program_request.specs.declared.Parsed.the-variants.{TooLong, BadLine, Request}
+use Rattle.program_request.proofs.Cuts.{before-take, after-drop, before-le, has-cut}
+
+-- a part of the first t elements is that part of all
+drop-take : (U : List ℕ) (f t : ℕ) → drop f (take t U) ≡ take (t - f) (drop f U)
+drop-take U zero t = ap (λ (n : ℕ). take n U) (sym (sub-zero t))
+drop-take [] (suc f) t = ap (drop (suc f)) (take-nil t) ∙ sym (take-nil (t - suc f))
+drop-take (b ∷ U) (suc f) zero = ap (λ (n : ℕ). take n (drop f U)) (sym (zero-sub (suc f)))
+drop-take (b ∷ U) (suc f) (suc t) = drop-take U f t ∙ ap (λ (n : ℕ). take n (drop f U)) (sym (suc-sub-suc t f))
+
+not-good : (a b : Bool) → b ≡ false → not (a && b) ≡ true
+not-good true b e = ap not e
+not-good false b e = refl
+
+module _ (input : List ℕ) where
+  pub too-long : 16384 < length input → Parses input TooLong
+  unfolding asked requestNumber requestTests inputTests lineTests given
+  too-long l = record { values = rw (lt-ltb 16384 (length input) l) refl; places = tt }
+
+  pub bad-line : length input ≤ 16384 → badLine input ≡ true → Parses input BadLine
+  unfolding asked requestNumber requestTests inputTests lineTests given
+  bad-line l e = record { values = rw (le-ltb 16384 (length input) l, e) refl; places = tt }
+
+  pub no-newline : has 10 input ≡ false → badLine input ≡ true
+  unfolding badLine
+  no-newline e = rw e refl
+
+  pub bad-fields : goodLine (firstLine input) ≡ false → badLine input ≡ true
+  unfolding badLine
+  bad-fields e = not-good (has 10 input) (goodLine (firstLine input)) e
+
+  good-line : has 10 input ≡ true → goodLine (firstLine input) ≡ true → badLine input ≡ false
+  unfolding badLine
+  good-line a b = rw (a, b) refl
+
+-- ---- where the newline stands
+
+module _ (input : List ℕ) (e : ℕ) (newline : e ≡ length (beforeFirst 10 input)) where
+  pub newline-within : e ≤ length input
+  newline-within = omega (arith, before-le 10 input)
+
+  pub newline-none : e ≡ length input → has 10 input ≡ false
+  newline-none h = has-cut 10 input ∙ le-ltb (length (beforeFirst 10 input)) (length input) (omega arith)
+
+  newline-there : e < length input → has 10 input ≡ true
+  newline-there l = has-cut 10 input ∙ lt-ltb (length (beforeFirst 10 input)) (length input) (omega arith)
+
+  pub line-is : take e input ≡ firstLine input
+  unfolding firstLine
+  line-is = rw newline (before-take 10 input)
+
+  rest-is : drop (e + 1) input ≡ afterFirst 10 input
+  rest-is = rw newline (after-drop 10 input)
+
+  -- a good line, and the text after it
+  pub request : (method k from end : ℕ) → length input ≤ 16384 → e < length input → LineFields (take e input) method k from
+      → TextEnds input (e + 1) end → Parses input (Request method k from e end)
+  unfolding asked requestNumber requestTests inputTests lineTests given requestMethod requestTolerance requestPattern requestText
+  request method k from end l inside fields text =
+      record {
+        values =
+            rw (
+              le-ltb 16384 (length input) l,
+              good-line input (newline-there inside) (rw line-is at (fields .good)),
+            )
+            (same (rw line-is at (fields .method-is)) (rw line-is at (fields .k-is))
+            (sym (drop-take input from e) ∙ fields .pattern-is ∙ ap patternField line-is) (text .text-is ∙ ap lessNewline rest-is));
+        places =
+            record {
+              pattern = omega (arith, fields .within, length-take-le e input newline-within);
+              text = omega (arith, text .least);
+              within = text .most;
+            };
+      }
+    where
+      same : {m₁ m₂ k₁ k₂ : ℕ} {P₁ P₂ T₁ T₂ : List ℕ} → m₁ ≡ m₂ → k₁ ≡ k₂ → P₁ ≡ P₂ → T₁ ≡ T₂
+          → _≡_ {A = Asked} (record { refusal = 0; method = m₁; k = k₁; pattern = P₁; text = T₁ })
+          (record { refusal = 0; method = m₂; k = k₂; pattern = P₂; text = T₂ })
+      same a b c d = cc

@@ -1,7 +1,0 @@
--- The laws of the definitions that the functions' proofs cite.
-pub mod Answers
-pub mod Headers
-pub mod Example
-pub mod Looks
-pub mod Room
-pub mod Founds

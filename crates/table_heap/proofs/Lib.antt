@@ -1,0 +1,3 @@
+pub mod Products
+pub mod Powers
+pub mod Sums

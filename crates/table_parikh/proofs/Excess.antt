@@ -1,0 +1,62 @@
+-- The excess of bytes that are counted one after another, and what their counters say of it.
+use mathlib.Core.Path.{_≡_, sym, ap, _∙_}
+use mathlib.Core.Bool.{true, false}
+use mathlib.Core.List.{List, [], _∷_, _++_}
+use Prim.Native.Nat.{ℕ, _+_, _-_, _≤_, _<_}
+use native.Mathlib.Nat.{add-comm, le-of-eq}
+use native.Mathlib.Omega.{arith}
+use lib.Dec.{leb}
+use lib.ListN.{length, getD, take}
+use lib.Seq.{take-all}
+use borrow.Author.Tests.{le-leb, lt-leb}
+use Rattle.jumbled.specs.Match.{bit, cc, usedUp, excess, matches}
+use Rattle.jumbled.proofs.Sums.{sum-ext}
+use Rattle.jumbled.proofs.Counts.{cc-append, cc-take, excess-cons, excess-mono, used-up-test}
+use Rattle.table_parikh.specs.Table.{parikh}
+use Rattle.table_parikh.proofs.Parikh.{getD-parikh}
+use Rattle.table_parikh.proofs.Letters.{take-more}
+
+-- the order of bytes does not matter to their counts, nor to the excess
+cc-turned : (b : ℕ) (U : List ℕ) (c : ℕ) → cc (U ++ (b ∷ [])) c ≡ cc (b ∷ U) c
+cc-turned b U c = cc-append U (b ∷ []) c ∙ add-comm (cc U c) (cc (b ∷ []) c) ∙ sym (cc-append (b ∷ []) U c)
+
+pub excess-snoc : (P U : List ℕ) (b : ℕ) → b < 256 → excess P (U ++ (b ∷ [])) ≡ excess P U + bit (usedUp P U b)
+unfolding excess
+excess-snoc P U b h =
+    sum-ext 256 (λ c. cc (U ++ (b ∷ [])) c - cc P c) (λ c. cc (b ∷ U) c - cc P c) (λ c l. ap (λ (n : ℕ). n - cc P c) (cc-turned b U c))
+    ∙ excess-cons P b U h
+
+-- what the counters of the pattern and of the bytes U say of a byte
+pub spent : (P U : List ℕ) {allowed counts : List ℕ} {b : ℕ} → allowed ≡ parikh P → counts ≡ parikh U → b < 256
+    → leb (getD allowed b 0) (getD counts b 0) ≡ usedUp P U b
+spent P U {b = b} known counted byte = rw (known, counted, getD-parikh P b byte, getD-parikh U b byte) (sym (used-up-test P U b))
+
+pub spent-all : (P U : List ℕ) {allowed counts : List ℕ} {b : ℕ} → allowed ≡ parikh P → counts ≡ parikh U → b < 256
+    → getD allowed b 0 ≤ getD counts b 0 → usedUp P U b ≡ true
+spent-all P U known counted byte h = sym (spent P U known counted byte) ∙ le-leb _ _ h
+
+pub not-spent : (P U : List ℕ) {allowed counts : List ℕ} {b : ℕ} → allowed ≡ parikh P → counts ≡ parikh U → b < 256
+    → getD counts b 0 < getD allowed b 0 → usedUp P U b ≡ false
+not-spent P U known counted byte h = sym (spent P U known counted byte) ∙ lt-leb _ _ h
+
+-- ---- the bytes of a window, from its first one on
+
+module _ (P W : List ℕ) where
+  module _ (i : ℕ) (inside : i < length W) (byte : getD W i 0 < 256) (so-far : excess P (take i W) ≡ 0) where
+    next : excess P (take (i + 1) W) ≡ bit (usedUp P (take i W) (getD W i 0))
+    next = ap (excess P) (sym (take-more W i inside)) ∙ excess-snoc P (take i W) (getD W i 0) byte ∙ omega arith
+
+    -- one more that is not too many
+    pub exceeds-not : usedUp P (take i W) (getD W i 0) ≡ false → excess P (take (i + 1) W) ≡ 0
+    exceeds-not e = rw e at next
+
+    -- one that is
+    pub exceeds : usedUp P (take i W) (getD W i 0) ≡ true → matches P 0 W ≡ false
+    unfolding matches
+    exceeds e =
+        let one : excess P (take (i + 1) W) ≡ 1 = rw e at next in
+        lt-leb (excess P W) 0 (omega (arith, excess-mono P (take (i + 1) W) W (cc-take (i + 1) W)))
+
+  pub exceeds-nowhere : (i : ℕ) → length W ≤ i → excess P (take i W) ≡ 0 → matches P 0 W ≡ true
+  unfolding matches
+  exceeds-nowhere i all so-far = le-leb (excess P W) 0 (le-of-eq (ap (excess P) (sym (take-all i W all)) ∙ so-far))

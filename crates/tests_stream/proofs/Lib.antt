@@ -1,0 +1,5 @@
+pub mod Filling
+pub mod Numbers
+pub mod Places
+pub mod Spellings
+pub mod Arguments

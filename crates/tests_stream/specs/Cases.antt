@@ -1,0 +1,36 @@
+-- What the functions that read a case leave their callers to rely on.
+use mathlib.Core.Path.{_≡_}
+use mathlib.Core.List.{List}
+use Prim.Native.Nat.{ℕ, _≤_}
+use lib.ListN.{length, take, drop}
+use Rattle.io.specs.Counts.{Counts}
+use Rattle.tests_stream.specs.Reading.{numberAt}
+use Rattle.tests_stream.specs.declared.cases.Fields.{Fields}
+use Rattle.tests_stream.specs.declared.cases.Shape.{Shape}
+
+-- A kind's arguments: they fit the lent buffers and lists, and its numbers 8 bytes
+pub record Readable (shape : Shape) : Type 0 where
+  pub pattern : shape .0 ≤ 300
+  pub text : shape .1 ≤ 65537
+  pub k : shape .2 ≤ 8
+  pub method : shape .3 ≤ 8
+  pub places : shape .4 ≤ 8
+  pub most : shape .5 ≤ 65537
+
+-- A case's pattern and text stand in the first bytes of the buffers, and a list of so many places can be lent
+pub record Lendable (m : ℕ) (patternBuffer : List ℕ) (n : ℕ) (textBuffer : List ℕ) (places : ℕ) : Type 0 where
+  pub pattern : Counts m patternBuffer
+  pub text : Counts n textBuffer
+  pub list : places ≤ 65537
+
+-- The fields that the bytes of a search write: "64 bytes of pattern, u64 length, u8 k, u8 method, u32 total, 63 bytes of tail, u64 length"
+-- (tools/vectors_stream.py). A number that can't be read is 0; an array whose bytes aren't all there is left open, since a case that can be
+-- read has all 149.
+pub record FieldsOf (bytes : List ℕ) (f : Fields) : Type 0 where
+  pub pattern : 64 ≤ length bytes → f .pattern ≡ take 64 bytes
+  pub patternLen : f .«pattern_len» ≡ numberAt bytes 64 8 18446744073709551615 .value
+  pub k : f .k ≡ numberAt bytes 72 1 255 .value
+  pub method : f .method ≡ numberAt bytes 73 1 255 .value
+  pub total : f .total ≡ numberAt bytes 74 4 4294967295 .value
+  pub tail : 141 ≤ length bytes → f .tail ≡ take 63 (drop 78 bytes)
+  pub tailLen : f .«tail_len» ≡ numberAt bytes 141 8 18446744073709551615 .value

@@ -1,0 +1,5 @@
+pub mod Fillings
+pub mod Reading
+pub mod Texts
+pub mod Cases
+pub mod Arguments
