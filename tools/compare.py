@@ -4,18 +4,24 @@ with the sheet of small records.
 
     python3 tools/compare.py path/to/mixlist
 
-Three parts, all made from one fixed seed: (a) the sheet, the widths under it
+Four parts, all made from one fixed seed: (a) the sheet, the widths under it
 and the examples of the refusals against reference.py; (b) made inputs run
 through mixlist, once per input, and its output compared byte for byte with
-the reference's; (c) series of feeds, saves, loads and changes of method in
-the reference against a whole search of the joined text.  Prints how many
-agreed and every difference; the exit status is 1 if there is any.
+the reference's; (c) inputs around the longest one, read by mixlist from a
+file and from a pipe that delivers them in pieces; (d) series of feeds, saves,
+loads and changes of method in the reference against a whole search of the
+joined text.  Prints how many agreed and every difference; the exit status is
+1 if there is any.
 """
 
+import fcntl
 import itertools
 import random
+import struct
 import subprocess
 import sys
+import tempfile
+import termios
 import time
 
 sys.dont_write_bytecode = True
@@ -599,7 +605,71 @@ def check_program(tally, path, coverage):
         )
 
 
-# --- (c) Series of calls in the reference -----------------------------------
+# --- (c) How mixlist reads ---------------------------------------------------
+
+# How many bytes each write has, over and over.  A pipe hands on what it holds,
+# so the next piece is written only once the one before it was taken.
+DELIVERIES = ((1000,), (4096,), (16384,), (16383, 1), (1, 16384), (65536,))
+
+
+def pieces(data, sizes):
+    start = 0
+    for size in itertools.cycle(sizes):
+        if start >= len(data):
+            return
+        yield data[start : start + size]
+        start += size
+
+
+def waiting(pipe):
+    """How many bytes of a pipe were not taken yet."""
+    return struct.unpack("i", fcntl.ioctl(pipe, termios.FIONREAD, b"\0" * 4))[0]
+
+
+def run_on_file(path, data):
+    with tempfile.TemporaryFile() as source:
+        source.write(data)
+        source.seek(0)
+        run = subprocess.run(
+            [path], stdin=source, stdout=subprocess.PIPE, stderr=subprocess.PIPE, timeout=20,
+        )
+    return run.stdout, run.stderr, run.returncode < 0
+
+
+def run_on_pipe(path, data, sizes):
+    run = subprocess.Popen(
+        [path], stdin=subprocess.PIPE, stdout=subprocess.PIPE, stderr=subprocess.PIPE, bufsize=0,
+    )
+    try:
+        for piece in pieces(data, sizes):
+            run.stdin.write(piece)
+            while waiting(run.stdin) and run.poll() is None:
+                time.sleep(0.0001)
+    except BrokenPipeError:
+        pass  # the program ends once it has read enough
+    output, errors = run.communicate(timeout=20)
+    return output, errors, run.returncode < 0
+
+
+def check_reads(tally, path):
+    for size in (16383, 16384, 16385, 16386, 20000, 70000):
+        for head, unit in (
+            (b"2 0 abc\n", b"abcxxx"),
+            (b"4 1 abcd\n", b"abxdcbad\n"),
+            (b"5 0 ab\n", b"ba"),
+            (b"1 0 ", b"a"),
+        ):
+            data = (head + unit * size)[:size]
+            expected = (ref.program_output(data), b"", False)
+            tally.same("from a file: %s" % shown(data), run_on_file(path, data), expected)
+            for sizes in DELIVERIES:
+                tally.same(
+                    "from a pipe in pieces of %s: %s" % (sizes, shown(data)),
+                    run_on_pipe(path, data, sizes), expected,
+                )
+
+
+# --- (d) Series of calls in the reference -----------------------------------
 
 
 class Ledger:
@@ -780,15 +850,21 @@ def main(arguments):
     after_program = time.monotonic()
     program.report(after_program - after_sheet)
 
-    series = Tally("(c) series of calls")
-    check_series(series)
-    series.report(time.monotonic() - after_program)
+    reads = Tally("(c) mixlist's reads")
+    check_reads(reads, arguments[1])
+    after_reads = time.monotonic()
+    reads.report(after_reads - after_program)
 
-    differences = sheet.differences + program.differences + series.differences
+    series = Tally("(d) series of calls")
+    check_series(series)
+    series.report(time.monotonic() - after_reads)
+
+    tallies = (sheet, program, reads, series)
+    differences = sum(tally.differences for tally in tallies)
     print(
         "all: %d agreed, %d differences, %.1f s"
         % (
-            sheet.agreed + program.agreed + series.agreed,
+            sum(tally.agreed for tally in tallies),
             differences,
             time.monotonic() - started,
         )

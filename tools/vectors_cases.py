@@ -296,6 +296,70 @@ def colliding_sums(stream, rng):
         stream.feed(text[cuts[-1] : 2 * m + 9])
 
 
+# For windows of m bytes, how many more of c_0, c_1, ... a window can have than a
+# mix, with the same sum modulo 2^64; bytes that the pattern lacks make up for
+# those that are missing.  Each was found by reducing a lattice, and is tested.
+EQUAL_SUMS = (
+    (64, (-8, 7, -19, 11, 4, 0, 16, 0, 4, -11, 3, -7)),
+    (64, (-6, 1, -4, 10, -15, 12, 0, -12, 15, -10, 4, 5)),
+    (64, (-6, -5, -3, 6, -5, -3, 12, -12, 3, 5, -6, 9, 5)),
+    (64, (-6, -7, 3, -9, -4, 16, 0, 4, 15, -6, -7, 8, -7)),
+    (64, (10, 0, -1, 1, 11, 10, 1, -1, 0, 1, -12, -10, -1, -9)),
+    (64, (-2, -4, -12, -2, 4, 6, -4, -2, -1, 0, 0, 2, 3, 5, 2, 5)),
+    (63, (0, 0, 0, 0, 0, 0, 0, 0, 0, 0, -16)),
+    (63, (0, 0, 0, 0, 0, 0, 0, 0, 0, 0, -32)),
+    (63, (0, 0, 0, 0, 0, 0, 0, 0, 0, 0, 0, -1)),
+    (63, (0, 0, 0, 0, 0, 0, 0, 0, 0, 0, -16, -1)),
+    (63, (0, 0, 0, 0, 0, 0, 0, 0, 0, 0, -16, -9)),
+    (63, (0, 0, 0, 0, 0, 0, 0, 0, 0, 0, 0, -2, 1)),
+    (62, (6, -6, -20, -5, -1, -1, -3, 5, 1, 10, -7, 26, -11)),
+    (62, (-6, 5, 3, 10, 8, -4, -3, -2, -5, 0, -2, -6, 1, -7)),
+    (60, (10, 9, -13, 14, -5, 1, -4, -1, -7, -4, -6, -5, 7, 4)),
+    (48, (-1, 0, -1, -2, -5, -2, 3, 14, 0, -5, 1, -6, 0, -2, -1, 5, -2, 4)),
+    (40, (-3, 1, -2, 3, 6, -1, -7, 7, -2, -4, 4, 1, -5, 3, -1, 2, 0, -2)),
+    (32, (-4, -2, -1, 2, -1, 4, 1, 1, -6, 3, 2, -1, -1, -1, -2, 1, 3, 1, 1, 0)),
+)
+
+
+def pattern_and_window(rng, m, more):
+    """A pattern that has each letter often enough, and a window of equal sum."""
+    own = some_letters(rng, len(more))
+    counts = [max(1, -difference) for difference in more]
+    while sum(counts) < m:
+        counts[rng.randrange(len(counts))] += 1
+    pattern = b"".join(bytes([c]) * count for c, count in zip(own, counts))
+    window = b"".join(bytes([c]) * (n + d) for c, n, d in zip(own, counts, more))
+    window += strangers(rng, pattern, m - len(window))
+    assert sum(d * heap_value(m, i) for i, d in enumerate(more)) % 2**64 == 0
+    assert len(pattern) == len(window) == m and not ref.heap_is_exact(pattern)
+    return shuffled(rng, pattern), shuffled(rng, window)
+
+
+def equal_sums(stream, rng):
+    """Windows that are candidates and no mixes: alone, again and again in a
+    text whose windows are all rotations of one, beside mixes, and fed so that
+    they begin in the tail, or lie in the chunk."""
+    for m, more in EQUAL_SUMS:
+        pattern, window = pattern_and_window(rng, m, more)
+        mix = shuffled(rng, pattern)
+        stream.whole(pattern, 0, 5, window)
+        stream.whole(pattern, 0, 5, repeated(m + rng.randrange(1, 2 * m), window))
+        stream.whole(pattern, 0, 5, mix + window + mix[: m // 2])
+        stream.whole(pattern, 0, 5, repeated(3 * m + rng.randrange(m), window + mix))
+        stream.open(pattern, 0, 5)
+        cut = rng.randrange(1, m)
+        stream.feed(window[:cut])
+        stream.feed(window[cut:] + window[: m // 3])
+        stream.feed(repeated(m + rng.randrange(m), window[m // 3 :] + window[: m // 3]))
+        stream.feed(mix + window[:cut])
+        stream.set_method(1)
+        stream.feed(window[cut : cut + 1])
+        stream.set_method(5)
+        stream.feed(window[cut + 1 :] + mix[:9])
+        stream.save(512)
+        stream.feed(mix[9:] + window[:1])
+
+
 # --- Refusals at their edges, and which comes first ---------------------------------
 
 
@@ -725,6 +789,26 @@ def input_lengths(stream, rng):
         stream.report(repeated(rng.randrange(200, 3000), first + record))
 
 
+# First lines that are none: no newline, an empty line, a digit too many or too
+# few or none, a leading zero, a space too many or too few, another space.
+BAD_LINES = (
+    b"abc", b"2 0 abc", b" ", b"0", b"\n", b"\n2 0 abc\n", b" 2 0 abc\n", b"2\n", b"2 \n", b"2 0\n",
+    b"20 abc\n", b"2 0abc\n", b"20abc\n", b"2  0 abc\n", b"22 0 abc\n", b"2 00 abc\n", b"2 01 abc\n",
+    b"2 000 abc\n", b"2 100 abc\n", b"x 0 abc\n", b"2 x abc\n", b"2 1x abc\n", b"2 x1 abc\n",
+    b"2 -1 abc\n", b"- 0 abc\n", b"2\t0 abc\n", b"2 0\tabc\n", b"2 0\r\n", b"\0 0 abc\n", b"2 0\0abc\n",
+)
+
+
+def bad_lines_of_long_inputs(stream, rng):
+    """A bad line gives 11 up to 16,384 bytes, and 6 from there on."""
+    for unit in BAD_LINES:
+        for size in (16384, 16385, 16386, 20000):
+            stream.report(repeated(size, unit))
+    for size in (16384, 16385, 65536, 65537):
+        stream.report(scattered(size, rng.randrange(2**32), b"abc"))
+        stream.report(scattered(size, rng.randrange(2**32), b"x\n"))
+
+
 # --- All of them ----------------------------------------------------------------------------
 
 FAMILIES = (
@@ -740,6 +824,7 @@ FAMILIES = (
     long_texts,
     long_chunks,
     colliding_sums,
+    equal_sums,
     edges_of_terms,
     edges_of_whole_search,
     edges_of_feed,
@@ -756,4 +841,5 @@ FAMILIES = (
     first_lines,
     patterns_and_records,
     input_lengths,
+    bad_lines_of_long_inputs,
 )

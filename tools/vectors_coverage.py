@@ -19,6 +19,17 @@ NUMBERS = {
     SAVE: (0, 1, 2, 3, 4, 5, 9, 10), LOAD: (0, 1, 2, 3, 4, 5, 9),
 }
 
+# The fewest cases of kinds that are easily thin.
+FEWEST = {
+    "a bad first line of an input over 16,384 bytes": 60,
+    "a bad first line of an input of 16,384 bytes": 20,
+    "whole searches with a failed verification": 50,
+    "feeds with a failed verification": 50,
+    "feeds with a failed verification of a window that begins in the tail": 30,
+    "feeds with a failed verification of a window in the chunk": 15,
+    "searches with a failed verification and a match": 30,
+}
+
 # --- The tests of each call, in their order ------------------------------------
 
 
@@ -82,12 +93,22 @@ EXAMPLES = {
 # --- Coverage ------------------------------------------------------------------
 
 
+def candidates(pattern, text):
+    """The windows whose sum of heap values, modulo 2^64, is the pattern's."""
+    m = len(pattern)
+    value = {c: (m + 1) ** i for i, c in enumerate(sorted(set(pattern)))}
+    sums = [sum(value.get(c, 0) for c in text[s : s + m]) for s in range(len(text) - m + 1)]
+    own = sum(value[c] for c in pattern)
+    return [s for s, total in enumerate(sums) if (total - own) % 2**64 == 0]
+
+
 class VectorCoverage(Coverage):
     def __init__(self):
         super().__init__()
         self.cases = Counter()
         self.hands = 0
         self.pairs = Counter()
+        self.counts = Counter()
 
     def case(self, op, arguments, number, before):
         """A case, and the stored search before it."""
@@ -99,12 +120,40 @@ class VectorCoverage(Coverage):
         self.order(op, tests_of(op, arguments, search), number)
         if op == REPORT:
             self.add(arguments[0], ref.program_output(arguments[0]))
+            self.first_line(arguments[0])
         elif op == WIDTH:
             self.bits.add((arguments[2], ref.bits_needed(*arguments)))
         elif op == WHOLE and not number:
             self.searched(*arguments[:4])
+            self.verifications(op, arguments[0], arguments[2], b"", arguments[3])
         elif op == FEED and not number:
             self.searched(search.pattern, search.k, search.method, search.tail + arguments[0])
+            self.verifications(op, search.pattern, search.method, search.tail, arguments[0])
+
+    def first_line(self, given):
+        if ref.parse_input(given) is None:
+            if len(given) > ref.LONGEST_INPUT:
+                self.counts["a bad first line of an input over 16,384 bytes"] += 1
+            elif len(given) == ref.LONGEST_INPUT:
+                self.counts["a bad first line of an input of 16,384 bytes"] += 1
+
+    def verifications(self, op, pattern, method, tail, given):
+        """Candidates of method 5 that are verified and do not match."""
+        if method != 5 or ref.heap_is_exact(pattern):
+            return
+        text = tail + given
+        matches = ref.listed_positions(pattern, 0, text)
+        failed = [s for s in candidates(pattern, text) if s not in matches]
+        if failed:
+            kind = "whole searches" if op == WHOLE else "feeds"
+            self.counts[kind + " with a failed verification"] += 1
+            of_a_window = "feeds with a failed verification of a window "
+            if failed[0] < len(tail):
+                self.counts[of_a_window + "that begins in the tail"] += 1
+            if op == FEED and failed[-1] >= len(tail):
+                self.counts[of_a_window + "in the chunk"] += 1
+            if matches:
+                self.counts["searches with a failed verification and a match"] += 1
 
     def order(self, op, tests, number):
         """The first test that holds gives the number; others may hold too."""
@@ -125,6 +174,8 @@ class VectorCoverage(Coverage):
             "  tests that hold at once: %d pairs, %d times"
             % (len(self.pairs), sum(self.pairs.values()))
         )
+        for kind in FEWEST:
+            print("  %s: %d" % (kind, self.counts[kind]))
         print("  the program's answers, and then the accepted searches of all kinds:")
         super().report()
 
@@ -150,6 +201,9 @@ class VectorCoverage(Coverage):
         for number in (1, 2, 3, 4, 5, 6, 11):
             if "refused %d" % number not in self.answers:
                 missing.append("the program's refusal %d" % number)
+        for kind, fewest in FEWEST.items():
+            if self.counts[kind] < fewest:
+                missing.append("%d cases of %s, but %d" % (fewest, kind, self.counts[kind]))
         if len(self.in_pattern) < 256 or len(self.in_text) < 256:
             missing.append("byte values")
         if min(self.sides.values()) == 0 or self.failed_verification == 0:

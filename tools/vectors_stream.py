@@ -196,7 +196,7 @@ ARGUMENTS = {
         ("take", 64), ("number", 8), ("number", 1), ("number", 1), ("number", 4),
         ("take", 63), ("number", 8),
     ),
-    REPORT: (("text", 16385),),
+    REPORT: (("text", 65537),),
     WIDTH: (("text", 64), ("number", 1), ("number", 1)),
     EXACT: (("text", 64),),
 }

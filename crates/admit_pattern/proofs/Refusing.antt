@@ -1,15 +1,23 @@
--- A pattern that is refused.
-use mathlib.Core.Path.{_≡_, ap, _∙_}
+-- The counts of a pattern that is taken, and of one that is refused.
+use mathlib.Core.Path.{_≡_, sym, ap, _∙_}
 use mathlib.Core.List.{List}
 use Prim.Native.Nat.{ℕ}
-use native.Mathlib.Omega.{arith}
+use lib.ListN.{replicate}
+use Rattle.table_parikh.specs.Table.{parikh}
 use Rattle.answers.specs.Numbers.{numberOf, admissionNumber}
 use Rattle.answers.specs.declared.Refusal.{Refusal}
 use Rattle.answers.specs.declared.Admission.the-variants.{Refused}
-use Rattle.answers.proofs.Refused.{number-positive}
+use Rattle.answers.proofs.Refused.{on-refusal, on-accepted}
 use Rattle.admit_pattern.specs.Admits.{Admits}
 use Rattle.admit_pattern.specs.declared.AdmittedPattern.{AdmittedPattern}
 
-pub admits-refused : {P : List ℕ} {n : ℕ} {r : AdmittedPattern} (refusal : Refusal) → r .admission ≡ Refused refusal → numberOf refusal ≡ n → Admits P n r
-admits-refused refusal e q =
-    record { number = ap admissionNumber e ∙ q; counts = λ none. absurd (let positive = number-positive refusal in omega arith) }
+module _ {P : List ℕ} {n : ℕ} {r : AdmittedPattern} where
+  pub admits-refused : (refusal : Refusal) → r .admission ≡ Refused refusal → r .counts ≡ replicate 256 0 → numberOf refusal ≡ n → Admits P n r
+  admits-refused refusal e zeros q =
+      record { number = ap admissionNumber e ∙ q; counts = zeros ∙ on-refusal refusal n (parikh P) (replicate 256 0) q }
+
+  pub admits-counted : Admits P n r → n ≡ 0 → r .counts ≡ parikh P
+  admits-counted a none = a .counts ∙ sym (on-accepted n (parikh P) (replicate 256 0) none)
+
+  pub refused-uncounted : Admits P n r → (refusal : Refusal) → r .admission ≡ Refused refusal → r .counts ≡ replicate 256 0
+  refused-uncounted a refusal e = a .counts ∙ sym (on-refusal refusal n (parikh P) (replicate 256 0) (ap admissionNumber (sym e) ∙ a .number))

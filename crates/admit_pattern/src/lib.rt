@@ -2,7 +2,7 @@
 
 ghost use mathlib.Core.Path.{_≡_};
 ghost use Prim.Native.Nat.{_≤_};
-ghost use lib.ListN.{length};
+ghost use lib.ListN.{length, replicate};
 ghost use Rattle.jumbled.specs.Refusals.{given, isMethod, exactOnly, methodTests, patternTests};
 ghost use Rattle.table_parikh.specs.Table.{parikh};
 ghost use Rattle.answers.specs.Numbers.{admissionNumber};
@@ -10,6 +10,9 @@ ghost use Rattle.answers.specs.declared.Admission.the-variants.{Refused};
 ghost use Rattle.admit_pattern.specs.Admits.{Admits};
 use answers::Admission;
 use answers::Refusal;
+
+// The longest pattern.
+pub const LONGEST_PATTERN: usize = 64;
 
 // The method is one of the five.
 pub fn is_method(method: u8) -> bool
@@ -49,7 +52,7 @@ pub fn admit_method(pattern: &[u8], counts: &[u8; 256], k: u8, method: u8) -> Ad
     Admission::Accepted
 }
 
-// Whether a pattern is taken, and if it is, how often it has each byte: a call counts it once.
+// Whether a pattern is taken, and if it is, how often it has each byte: a call counts it once. Of one that is not, the counts are 0.
 pub struct AdmittedPattern {
     pub admission: Admission,
     pub counts: [u8; 256],
@@ -57,7 +60,7 @@ pub struct AdmittedPattern {
 
 // A pattern that is not taken, and is not counted.
 pub fn refused_pattern(refusal: Refusal) -> AdmittedPattern
-    ensures { λ r. ⌜ r .admission ≡ Refused refusal ⌝ }
+    ensures { λ r. ⌜ (r .admission ≡ Refused refusal) × (r .counts ≡ replicate 256 0) ⌝ }
 {
     AdmittedPattern {
         admission: Admission::Refused(refusal),
@@ -73,7 +76,7 @@ pub fn admit(pattern: &[u8], k: u8, method: u8) -> AdmittedPattern
     if m == 0 {
         return refused_pattern(Refusal::PatternLength);
     }
-    if 64 < m {
+    if LONGEST_PATTERN < m {
         return refused_pattern(Refusal::PatternLength);
     }
     if m <= k as usize {
@@ -81,5 +84,8 @@ pub fn admit(pattern: &[u8], k: u8, method: u8) -> AdmittedPattern
     }
     let counts = table_parikh::counts(pattern);
     let admission = admit_method(pattern, &counts, k, method);
+    if let Admission::Refused(refusal) = admission {
+        return refused_pattern(refusal);
+    }
     AdmittedPattern { admission, counts }
 }

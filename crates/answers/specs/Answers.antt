@@ -1,4 +1,5 @@
--- Document 01's number and values for each answer: "When a call says no", and "A refusal reports 0 found, 0 looks and, for save, length 0".
+-- What each answer says in the terms of document 01, "When a call says no": the refusal's number, 0 where there is none, and the counts or the
+-- length, which a refusal leaves at 0.
 use Prim.Native.Nat.{ℕ}
 use Rattle.answers.specs.Numbers.{numberOf}
 use Rattle.answers.specs.declared.Answer.{Answer}

@@ -53,8 +53,8 @@ pub fn count_chunk(
     let second = loop_count::count_windows(m, counts, k, chunk, first.sliding, over_chunk, list);
     let inspections = first.inspections + second.inspections;
     SearchCounts {
-        found: second.at,
-        inspections,
+        found: second.at, // the seam's positions are in the places before
+        inspections, // a byte of both is taken once
     }
 }
 
@@ -123,7 +123,7 @@ pub fn hcam_chunk(
     );
     let inspections = first.inspections + second.inspections;
     SearchCounts {
-        found: second.at,
-        inspections,
+        found: second.at, // the seam's candidates too, where they were listed
+        inspections, // those of verifications among them
     }
 }

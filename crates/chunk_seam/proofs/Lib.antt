@@ -1,2 +1,3 @@
 pub mod Joins
 pub mod Prepared
+pub mod Seams

@@ -4,9 +4,10 @@ ghost use mathlib.Core.Path.{_≡_};
 ghost use mathlib.Core.List.{_++_};
 ghost use Prim.Native.Nat.{_+_, _-_, _^_, _≤_, _<_};
 ghost use lib.ListN.{length, take};
-ghost use Rattle.chunk_seam.specs.Seam.{seamBytes};
+ghost use Rattle.chunk_seam.specs.Seam.{seamOf};
 ghost use Rattle.chunk_seam.specs.Joined.{Parted};
 use lent::Range;
+use lent::copy_in;
 use lent::least;
 
 // The windows of a tail and of the chunk after it.
@@ -44,41 +45,20 @@ pub fn split_starts(m: usize, tail: usize, chunk: usize, base: usize) -> Split
     }
 }
 
-// The tail and the first bytes of a chunk: all that the windows which start in the tail reach.
+// The tail and the first bytes of a chunk: all that the windows which start in the tail reach. The bytes past these are 0.
 pub struct Seam {
     pub bytes: [u8; 128],
     pub len: usize,
 }
 
-impl Seam {
-    // The seam with the first count bytes of source at its end.
-    fn with(self, source: &[u8], count: usize) -> Seam
-        requires { ⌜ (count ≤ length (now source)) × (self .len + count ≤ 128) ⌝ }
-        ensures { λ r. ⌜ (seamBytes r ≡ seamBytes self ++ take count (now (source .entry))) × (r .len ≡ self .len + count) ⌝ }
-    {
-        let mut bytes = self.bytes;
-        let len = self.len;
-        let mut i = 0;
-        while i < count {
-            bytes[len + i] = source[i];
-            i += 1;
-        }
-        Seam {
-            bytes,
-            len: len + count,
-        }
-    }
-}
-
 // The tail and as much of the chunk as a window that starts in the tail can reach.
 pub fn seam_of(tail: &[u8], chunk: &[u8], m: usize) -> Seam
     requires { ⌜ (length (now tail) < m) × (m ≤ 64) ⌝ }
-    ensures { λ r. ⌜ (seamBytes r ≡ now (tail .entry) ++ take (m - 1) (now (chunk .entry))) × (r .len ≤ 128) ⌝ }
+    ensures { λ r. ⌜ r ≡ seamOf (now (tail .entry) ++ take (m - 1) (now (chunk .entry))) ⌝ }
 {
     let count = least(chunk.len(), m - 1);
-    let empty = Seam {
-        bytes: [0u8; 128],
-        len: 0,
-    };
-    empty.with(tail, tail.len()).with(chunk, count)
+    let mut bytes = [0u8; 128];
+    let tail_end = copy_in(tail, &mut bytes, 0);
+    let len = copy_in(&chunk[..count], &mut bytes, tail_end);
+    Seam { bytes, len }
 }

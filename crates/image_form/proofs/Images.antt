@@ -303,17 +303,17 @@ save-order = record { four = refl; once = once }
     once (suc (suc (suc (suc zero)))) least most = refl
     once (suc (suc (suc (suc (suc n))))) least most = absurd (omega arith)
 
--- document 01, "The saved image": "In order 1 to 4 a fresh search for `ab`, k 0, method 2 is 04 010200 020200 030400 040000 6162 0002 00000000"
+-- The example of document 01, "The saved image": the pattern `ab` with k 0 and method 2, nothing fed yet, the entries ascending by kind
 pub example : image (1 ∷ 2 ∷ 3 ∷ 4 ∷ []) (partsWith (97 ∷ 98 ∷ []) 0 2 0 [])
     ≡ 4 ∷ 1 ∷ 2 ∷ 0 ∷ 2 ∷ 2 ∷ 0 ∷ 3 ∷ 4 ∷ 0 ∷ 4 ∷ 0 ∷ 0 ∷ 97 ∷ 98 ∷ 0 ∷ 2 ∷ 0 ∷ 0 ∷ 0 ∷ 0 ∷ []
 unfolding image each body lowFirst
 example = refl
 
--- "When a call says no", 9: "image of the byte 04"
+-- The example of 9, "When a call says no": an image that ends after its first byte
 example-refused : badForm (4 ∷ []) ≡ true
 unfolding badForm
 example-refused = refl
 
--- and 10: "fresh `a`, 19 bytes (needs 20)"
+-- and that of 10: a search for `a` that was fed nothing takes 20 bytes
 example-length : {order : List ℕ} → IsOrder order → length (image order (partsWith (97 ∷ []) 0 1 0 [])) ≡ 20
 example-length o = length-image (partsWith (97 ∷ []) 0 1 0 []) o

@@ -17,7 +17,7 @@ pub record Entry : Type 0 where
   pub kind : ℕ
   pub len : ℕ
 
--- The entry whose 3 bytes come first: "kind, then length as 16 bits"
+-- The entry that the first 3 bytes write: a byte for the kind, two for the length
 abbrev pub firstEntry : List ℕ → Entry
 firstEntry bytes = record { kind = getD bytes 0 0; len = fromLowFirst (take 2 (drop 1 bytes)) }
 
@@ -60,12 +60,12 @@ bodyOf kind image = take (lengthOf kind image) (drop (bodyStart kind image) imag
 unfoldable pub times : ℕ → List Entry → ℕ
 times kind es = cc (map (λ e. e .kind) es) kind
 
--- "kinds .. 1 to 4 once each"
+-- Each of the kinds 1 to 4 has one entry
 unfoldable pub kindsRight : List Entry → Bool
 kindsRight es = eqb (times 1 es) 1 && eqb (times 2 es) 1 && eqb (times 3 es) 1 && eqb (times 4 es) 1
 
--- "Load tests 9: under 13 bytes, first byte not 04, kinds not 1 to 4 once each, kind 2 not of 2 bytes, kind 3 not of 4, image length not 13
--- plus the four lengths"
+-- The form is bad, which load refuses with 9 (document 01, "When a call says no"): no room for the first byte and four entries, another first
+-- byte than 04, a kind that is missing or repeated, a length other than 2 for kind 2 or than 4 for kind 3, or lengths that do not add up to the rest
 unfoldable pub badForm : List ℕ → Bool
 badForm image =
     ltb (length image) 13

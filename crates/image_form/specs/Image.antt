@@ -7,7 +7,7 @@ use lib.Dec.{eqb}
 use lib.ListN.{length}
 use Rattle.jumbled.specs.Match.{cc}
 
--- What a search is saved as: "pattern, k, method, total n, and the tail" (document 01, "A search and its calls")
+-- What a search is saved as: the five parts by which document 01, "A search and its calls", compares searches
 pub record Parts : Type 0 where
   pub pattern : List ℕ
   pub k : ℕ
@@ -19,12 +19,13 @@ pub record Parts : Type 0 where
 abbrev pub partsWith : List ℕ → ℕ → ℕ → ℕ → List ℕ → Parts
 partsWith P k method n tail = record { pattern = P; k = k; method = method; total = n; tail = tail }
 
--- n in `count` bytes, "low byte first"
+-- n in `count` bytes, the lowest first
 unfoldable pub lowFirst : ℕ → ℕ → List ℕ
 lowFirst zero n = []
 lowFirst (suc count) n = n % 256 ∷ lowFirst count (n / 256)
 
--- "Kind 1: the pattern. Kind 2: k, method, one byte each. Kind 3: n as 32 bits, low byte first. Kind 4: the tail." There is no other kind.
+-- What stands under each kind: the pattern under 1, a byte of k and a byte of the method under 2, n in four bytes under 3, the tail under 4. There is
+-- no other kind.
 unfoldable pub body : Parts → ℕ → List ℕ
 body parts kind =
     cond (eqb kind 1) (parts .pattern)
@@ -33,7 +34,7 @@ body parts kind =
     (cond (eqb kind 4) (parts .tail)
     [])))
 
--- An entry of 3 bytes: "kind, then length as 16 bits, low byte first"
+-- An entry: a byte for the kind, and the length of its body in two, the lower first
 abbrev pub entry : ℕ → ℕ → List ℕ
 entry kind len = kind ∷ lowFirst 2 len
 
@@ -46,7 +47,7 @@ each f (kind ∷ order) = f kind ++ each f order
 abbrev pub entries : (ℕ → List ℕ) → List ℕ → List ℕ
 entries bodyFor order = each (λ kind. entry kind (length (bodyFor kind))) order
 
--- The image whose entries stand in an order: "byte 04, then four entries", "then the bodies in the order of the entries"
+-- The image whose entries stand in an order: the byte 04, the entries, and then the bodies in that order too
 unfoldable pub image : List ℕ → Parts → List ℕ
 image order parts = 4 ∷ (entries (body parts) order ++ each (body parts) order)
 

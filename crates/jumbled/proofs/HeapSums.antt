@@ -175,16 +175,17 @@ module _ (P : List ℕ) (hP : Bytes P) (W : List ℕ) (hW : Bytes W) (same : len
 
   pub hcam-judges : hcamJudged P W .listed ≡ matches P 0 W
   unfolding hcamJudged
-  hcam-judges = case (eqb (heapSum P W) (heapSum P P)) refl
+  hcam-judges = case _ (eqb (heapSum P W) (heapSum P P)) refl
     where
-      verified : Judged
-      verified = record { listed = matches P 0 W; verification = length P }
+      -- whatever a verification takes
+      judgedAt : ℕ → Judged
+      judgedAt taken = record { listed = matches P 0 W; verification = taken }
 
-      certain : (x : Bool) → exact P ≡ x → heapSum P W ≡ heapSum P P → cond x (unverified true) verified .listed ≡ matches P 0 W
-      certain true x e = sym (candidate-matches x e)
-      certain false x e = refl
+      certain : (taken : ℕ) (x : Bool) → exact P ≡ x → heapSum P W ≡ heapSum P P → cond x (unverified true) (judgedAt taken) .listed ≡ matches P 0 W
+      certain taken true x e = sym (candidate-matches x e)
+      certain taken false x e = refl
 
-      case : (t : Bool) → eqb (heapSum P W) (heapSum P P) ≡ t
-          → cond t (cond (exact P) (unverified true) verified) (unverified false) .listed ≡ matches P 0 W
-      case true q = certain (exact P) refl (eqb-true (heapSum P W) (heapSum P P) q)
-      case false q = sym (others-differ (eqb-false (heapSum P W) (heapSum P P) q))
+      case : (taken : ℕ) (t : Bool) → eqb (heapSum P W) (heapSum P P) ≡ t
+          → cond t (cond (exact P) (unverified true) (judgedAt taken)) (unverified false) .listed ≡ matches P 0 W
+      case taken true q = certain taken (exact P) refl (eqb-true (heapSum P W) (heapSum P P) q)
+      case taken false q = sym (others-differ (eqb-false (heapSum P W) (heapSum P P) q))

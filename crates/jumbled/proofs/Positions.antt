@@ -1,17 +1,19 @@
--- That `positions` is what document 01 says of the listed positions: all s with s + m ≤ n whose window matches, and ascending; and that
--- method 1 makes n inspections (document 01, "What a match is" and "The five methods", 1).
+-- That `positions` are the window starts of matching windows, each of them and no other number, in ascending order; and how many inspections
+-- the forward methods make (document 01, "What a match is" and "The five methods", 1 and 5).
 use mathlib.Core.Path.{_≡_, refl, sym, ap, _∙_}
-use mathlib.Core.Bool.{Bool, true, false, cond, false≢true}
+use mathlib.Core.Bool.{Bool, true, false, cond, not, _&&_, false≢true}
 use mathlib.Core.List.{List, [], _∷_, List·Memᴰ, List·Memᴰ·head, List·Memᴰ·tail, List·Memᴰ·not-nil, List·Memᴰ·cases-cons}
 use mathlib.Core.Logic.{_↔_, ⊎-elim}
-use Prim.Native.Nat.{ℕ, zero, suc, _+_, _-_, _≤_, _<_}
-use native.Mathlib.Nat.{le-refl, le-trans}
+use Prim.Native.Nat.{ℕ, zero, suc, _+_, _-_, _*_, _≤_, _<_}
+use native.Mathlib.Nat.{le-refl, le-trans, mul-suc}
 use native.Mathlib.Omega.{arith}
+use lib.Dec.{eqb}
 use lib.ListN.{length}
 use borrow.Author.Tests.{leb-true, le-leb}
 use Rattle.jumbled.specs.Match.{excess, matches, window, starts, select, positions}
-use Rattle.jumbled.specs.Scan.{Result, nothing, Judged, backward, forward}
-use Rattle.jumbled.specs.Steps.{countJudged, steps}
+use Rattle.jumbled.specs.Scan.{Result, nothing, Judged, unverified, backward, forward}
+use Rattle.jumbled.specs.Heap.{heapSum, exact}
+use Rattle.jumbled.specs.Steps.{countJudged, hcamJudged, verified, verifiedStarts, steps}
 use Rattle.jumbled.proofs.Sums.{below-or-not}
 
 -- Each number is over those before it, and none is below `least`
@@ -92,19 +94,58 @@ module _ (P : List ℕ) (k : ℕ) (T : List ℕ) where
           selected test 0 (starts (length P) T) s
           (record { least = omega arith; below = omega (arith, h .0); passes = le-leb (excess P (window (length P) T s)) k (h .1) })
 
--- ---- method 1 makes n inspections, none where n < m
+-- ---- the forward methods make n inspections, and those of the verified windows besides; none where n < m
 
-forward-plain : (judged : List ℕ → Judged) → ((W : List ℕ) → judged W .verification ≡ 0) → (m : ℕ) (T : List ℕ) (s left cost : ℕ)
-    → forward judged m T s (suc left) cost .inspections ≡ cost + left
-unfolding forward
-forward-plain judged plain m T s zero cost = omega (arith, plain (window m T s))
-forward-plain judged plain m T s (suc left) cost = omega (arith, plain (window m T s), forward-plain judged plain m T (suc s) left 1)
+-- where verifying a window takes c inspections, and the windows that pass the test are verified
+forward-inspections : (judged : List ℕ → Judged) (test : List ℕ → Bool) (c : ℕ) → ((W : List ℕ) → judged W .verification ≡ cond (test W) c 0)
+    → (m : ℕ) (T : List ℕ) (s left cost : ℕ)
+    → forward judged m T s (suc left) cost .inspections ≡ cost + left + c * length (select (λ i. test (window m T i)) s (suc left))
+unfolding forward select
+forward-inspections judged test c by-test m T s zero cost =
+    rw (by-test (window m T s)) (case (test (window m T s)))
+  where
+    case : (t : Bool) → cost + cond t c 0 + 0 ≡ cost + 0 + c * length (cond t (s ∷ []) [])
+    case true = omega arith
+    case false = omega arith
+forward-inspections judged test c by-test m T s (suc left) cost =
+    rw (by-test (window m T s), forward-inspections judged test c by-test m T (suc s) left 1) (case (test (window m T s)))
+  where
+    later : List ℕ
+    later = select (λ i. test (window m T i)) (suc s) (suc left)
 
+    case : (t : Bool) → cost + cond t c 0 + (1 + left + c * length later) ≡ cost + suc left + c * length (cond t (s ∷ later) later)
+    case true = omega (arith, mul-suc c (length later))
+    case false = omega arith
+
+-- what verifying a window of method 5 takes
+hcam-verification : (P W : List ℕ) → hcamJudged P W .verification ≡ cond (verified P W) (length P) 0
+unfolding hcamJudged verified
+hcam-verification P W = case (eqb (heapSum P W) (heapSum P P)) (exact P)
+  where
+    case : (candidate sure : Bool)
+        → cond candidate (cond sure (unverified true) (record { listed = matches P 0 W; verification = length P })) (unverified false) .verification
+        ≡ cond (candidate && not sure) (length P) 0
+    case true true = refl
+    case true false = refl
+    case false sure = refl
+
+all-starts : (P T : List ℕ) → length P ≤ length T → starts (length P) T ≡ suc (length T - length P)
+all-starts P T h = omega arith
+
+-- method 1 verifies nothing: n
 pub count-inspections : (P : List ℕ) (k : ℕ) (T : List ℕ) → length P ≤ length T → steps P k 1 T .inspections ≡ length T
 unfolding steps countJudged
 count-inspections P k T h =
-    let all : starts (length P) T ≡ suc (length T - length P) = omega arith in
-    rw all (forward-plain (countJudged P k) (λ W. refl) (length P) T 0 (length T - length P) (length P) ∙ omega arith)
+    rw (all-starts P T h)
+    (forward-inspections (countJudged P k) (λ W. false) 0 (λ W. refl) (length P) T 0 (length T - length P) (length P) ∙ omega arith)
+
+-- method 5: n, and m for each verified window
+pub hcam-inspections : (P : List ℕ) (k : ℕ) (T : List ℕ) → length P ≤ length T
+    → steps P k 5 T .inspections ≡ length T + length P * length (verifiedStarts P T)
+unfolding steps verifiedStarts
+hcam-inspections P k T h =
+    rw (all-starts P T h)
+    (forward-inspections (hcamJudged P) (verified P) (length P) (hcam-verification P) (length P) T 0 (length T - length P) (length P) ∙ omega arith)
 
 either : (t : Bool) (r : Result) → cond t r r ≡ r
 either true r = refl

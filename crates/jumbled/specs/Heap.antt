@@ -18,11 +18,11 @@ rank P c = sum c (λ d. bit (occurs P d))
 abbrev pub radix : List ℕ → ℕ
 radix P = length P + 1
 
--- The value of c_i is (m + 1)^i, of any other letter 0; the powers wrap at 2^64
+-- A letter of P is worth a power of m + 1, modulo 2^64, by its rank; every other letter is worth nothing
 unfoldable pub heapValue : List ℕ → ℕ → ℕ
 heapValue P c = cond (occurs P c) (radix P ^ rank P c % 2 ^ 64) 0
 
--- The sum of a window's values; the sums wrap at 2^64
+-- The sum of a window's values, modulo 2^64
 unfoldable pub heapSum : List ℕ → List ℕ → ℕ
 heapSum P [] = 0
 heapSum P (b ∷ W) = (heapValue P b + heapSum P W) % 2 ^ 64

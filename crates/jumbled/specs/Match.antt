@@ -6,7 +6,7 @@ use mathlib.Core.List.{List, [], _∷_}
 use lib.Dec.{leb, eqb}
 use lib.ListN.{length, getD, take, drop}
 
--- Every element is a byte. Document 01: "A reading is one byte, 0 to 255".
+-- Every element is a byte: below 256
 pub record Bytes (U : List ℕ) : Type 0 where
   pub below : (i : ℕ) → getD U i 0 < 256
 
@@ -14,7 +14,7 @@ pub record Bytes (U : List ℕ) : Type 0 where
 abbrev pub bit : Bool → ℕ
 bit b = cond b 1 0
 
--- cc(U, c): how often c occurs in U
+-- cc(U, c): the number of occurrences of c in U
 unfoldable pub cc : List ℕ → ℕ → ℕ
 cc [] c = 0
 cc (b ∷ U) c = bit (eqb b c) + cc U c
@@ -54,6 +54,6 @@ unfoldable pub select : (ℕ → Bool) → ℕ → ℕ → List ℕ
 select test s zero = []
 select test s (suc count) = cond (test s) (s ∷ select test (suc s) count) (select test (suc s) count)
 
--- The listed positions: all s with s + m ≤ n whose window matches, ascending
+-- The positions to be listed: of the text's window starts those with a matching window
 unfoldable pub positions : List ℕ → ℕ → List ℕ → List ℕ
 positions P k T = select (λ s. matches P k (window (length P) T s)) 0 (starts (length P) T)

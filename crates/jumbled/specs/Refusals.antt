@@ -15,7 +15,7 @@ pub record Test : Type 0 where
 abbrev pub test : ℕ → Bool → Test
 test n b = record { number = n; applies = b }
 
--- "The first that applies is given"; 0 where none does
+-- The number of the first test that applies; 0 where none does
 unfoldable pub given : List Test → ℕ
 given [] = 0
 given (t ∷ ts) = cond (t .applies) (t .number) (given ts)
@@ -68,7 +68,7 @@ placeTests bytes places = test 7 (ltb places bytes) ∷ []
 unfoldable pub totalTests : (n bytes : ℕ) → List Test
 totalTests n bytes = test 8 (ltb 4294967295 (n + bytes)) ∷ []
 
--- The length of the tail after n bytes, for a pattern of m: "the last min(n, m − 1)"
+-- The length of the tail after n bytes, for a pattern of m: all n of them, up to m - 1
 abbrev pub tailLength : ℕ → ℕ → ℕ
 tailLength m n = min n (m - 1)
 
@@ -114,7 +114,7 @@ searchTests P k method n t = patternTests P k method ++ tailTests (length P) n t
 unfoldable pub chunkTests : (n bytes places : ℕ) → List Test
 chunkTests n bytes places = sizeTests bytes places ++ totalTests n bytes
 
--- Feed, set method and save first test the search handed in; of the next three `handed` has these tests. Feed: then 6, 7, 8
+-- The next three calls begin with the tests of their search, which `handed` has. Feed: then 6, 7, 8
 unfoldable pub feedTests : (handed : List Test) (n bytes places : ℕ) → List Test
 feedTests handed n bytes places = handed ++ chunkTests n bytes places
 

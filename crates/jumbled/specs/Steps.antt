@@ -1,11 +1,11 @@
 -- The steps of the five methods: document 01, "The five methods", 1 to 5. The methods have the papers' names:
 -- 1 count, 2 bam (packed backward), 3 bam2 (pairs backward), 4 abam (approximate backward), 5 hcam (heap values).
 use Prim.Native.Nat.{ℕ}
-use mathlib.Core.Bool.{true, false, cond}
+use mathlib.Core.Bool.{Bool, true, false, cond, not, _&&_}
 use mathlib.Core.List.{List, [], reverse}
 use lib.Dec.{ltb, eqb}
 use lib.ListN.{length}
-use Rattle.jumbled.specs.Match.{matches, starts}
+use Rattle.jumbled.specs.Match.{matches, window, starts, select}
 use Rattle.jumbled.specs.Scan.{Result, nothing, Scanned, scan, singles, pairs, backward, Judged, unverified, forward}
 use Rattle.jumbled.specs.Fields.{bamLayout, bam2Layout, abamLayout, overflows, errors}
 use Rattle.jumbled.specs.Heap.{heapSum, exact}
@@ -31,6 +31,14 @@ unfoldable pub hcamJudged : List ℕ → List ℕ → Judged
 hcamJudged P W =
     cond (eqb (heapSum P W) (heapSum P P))
     (cond (exact P) (unverified true) (record { listed = matches P 0 W; verification = length P })) (unverified false)
+
+-- The windows that 5 verifies: the candidates, where the values are not exact
+unfoldable pub verified : List ℕ → List ℕ → Bool
+verified P W = eqb (heapSum P W) (heapSum P P) && not (exact P)
+
+-- and where they start in a text
+unfoldable pub verifiedStarts : List ℕ → List ℕ → List ℕ
+verifiedStarts P T = select (λ s. verified P (window (length P) T s)) 0 (starts (length P) T)
 
 -- The steps of a method, by its number, over a text; a number that is no method's yields nothing
 unfoldable pub steps : List ℕ → ℕ → ℕ → List ℕ → Result

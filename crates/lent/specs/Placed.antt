@@ -1,5 +1,4 @@
--- What a lent list or buffer holds once numbers were put into it (document 01, "A search and its calls", Feed and Save: "the first places
--- hold .., the rest is unchanged").
+-- What a lent list or buffer holds once numbers were put into it (document 01, "A search and its calls", Feed and Save).
 use Prim.Native.Nat.{ℕ, _+_}
 use mathlib.Core.List.{List, _++_, map}
 use lib.ListN.{length, take, drop}

@@ -1,4 +1,4 @@
--- Words and numbers in base ten, as bytes: document 01, "The program", and "Numbers are written in base ten".
+-- Words, and numbers in base ten, as bytes: document 01, its opening paragraph and "The program".
 use Prim.Native.Nat.{ℕ, zero, suc, _+_, _/_, _%_}
 use Prim.Native.Char.{code}
 use Prim.Native.String as Text
@@ -23,6 +23,6 @@ digits (suc more) n = cond (ltb n 10) ((zeroDigit + n) ∷ []) (digits more (n /
 unfoldable pub decimal : ℕ → List ℕ
 decimal n = digits n n
 
--- n, and the newline that ends its line. "Every line ends with a newline": each line of the output ends with a number.
+-- n, and the newline that ends its line. Each line of the output has a number at its end, so this is how it ends.
 unfoldable pub numberLine : ℕ → List ℕ
 numberLine n = decimal n ++ ascii "\n"

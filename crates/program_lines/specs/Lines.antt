@@ -5,16 +5,16 @@ use lib.ListN.{length}
 use Rattle.lent.specs.Written.{Written}
 use Rattle.program_lines.specs.Decimal.{ascii, decimal, numberLine}
 
--- "The header repeats the first line's fields"
+-- The first line: the pattern, the method and k of the request
 unfoldable pub header : List ℕ → ℕ → ℕ → List ℕ
 header P k method = ascii "mix " ++ P ++ ascii " method " ++ decimal method ++ ascii " k " ++ numberLine k
 
--- "then one position a line"
+-- A line for each position
 unfoldable pub positionLines : List ℕ → List ℕ
 positionLines [] = []
 positionLines (p ∷ ps) = numberLine p ++ positionLines ps
 
--- "last the two counts"
+-- The last line: how many positions, and how many inspections
 unfoldable pub countsLine : ℕ → ℕ → List ℕ
 countsLine found inspections = ascii "found " ++ decimal found ++ ascii " looks " ++ numberLine inspections
 
@@ -22,7 +22,7 @@ countsLine found inspections = ascii "found " ++ decimal found ++ ascii " looks 
 unfoldable pub outputText : List ℕ → ℕ → ℕ → List ℕ → ℕ → List ℕ
 outputText P k method listed inspections = header P k method ++ positionLines listed ++ countsLine (length listed) inspections
 
--- "A refusal prints one line only, such as `refused 11`."
+-- All that is printed for a refusal
 unfoldable pub refusalText : ℕ → List ℕ
 refusalText number = ascii "refused " ++ numberLine number
 

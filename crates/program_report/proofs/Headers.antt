@@ -1,4 +1,4 @@
--- The header repeats the first line's fields as they stood: a field that has its form is the decimal of its number.
+-- The header has the request's fields as they stood: a field that has its form is the decimal of its number.
 use mathlib.Core.Path.{_≡_, refl, sym, ap, ap₂, _∙_}
 use mathlib.Core.Bool.{true, true≢false}
 use mathlib.Core.List.{List, [], _∷_}

@@ -20,6 +20,7 @@ use Rattle.program_request.proofs.Answered.{parsed-long, text-shorter}
 use Rattle.program_lines.specs.Lines.{outputText, refusalText}
 use Rattle.program_lines.proofs.Lines.{output-most, refusal-most}
 use Rattle.program_report.specs.Output.{requestRefusal, output}
+use Rattle.program_report.specs.Reads.{inputRoom, ReadInto, FirstBytes, ReportsRead}
 use Rattle.program_report.proofs.Answers.{output-early, output-found, output-refused, refusal-small}
 use Rattle.program_report.proofs.Inspections.{steps-few}
 
@@ -118,8 +119,19 @@ output-inside input w long = omega (arith, output-room input, w .place, written-
 long-output : (input : List ℕ) → 16384 < length input → output input ≡ refusalText 6
 long-output input l = output-early input (parsed-long input (too-long input l))
 
-pub output-cut : (input : List ℕ) → output (take 16385 input) ≡ output input
+pub output-cut : (input : List ℕ) → output (take inputRoom input) ≡ output input
 output-cut input =
-    ⊎-elim (λ (l : length input < 16385). ap output (take-all 16385 input (omega arith)))
-    (λ (l : 16385 ≤ length input). long-output (take 16385 input) (omega (arith, length-take-le 16385 input l)) ∙ sym (long-output input (omega arith)))
-    (below-or-not (length input) 16385)
+    ⊎-elim (λ (l : length input < inputRoom). ap output (take-all inputRoom input (omega arith)))
+    (λ (l : inputRoom ≤ length input). long-output (take inputRoom input) (omega (arith, length-take-le inputRoom input l)) ∙ sym (long-output input (omega arith)))
+    (below-or-not (length input) inputRoom)
+
+-- so what is printed for the bytes read is what is printed for the input
+pub output-read : (input bytes : List ℕ) (read : ℕ) → ReadInto bytes read → FirstBytes input bytes read → output (take read bytes) ≡ output input
+output-read input bytes read r first = ap output (first ∙ ap (λ (n : ℕ). take n input) (r .room)) ∙ output-cut input
+
+-- and it lies within the buffer: the bytes read are an input of their own
+pub read-inside : {bytes before after : List ℕ} {read n : ℕ} → ReadInto bytes read → ReportsRead bytes read before after n → length before ≡ 98560
+    → n ≤ length after
+read-inside {bytes} {read = read} r reports long =
+    output-inside (take read bytes)
+    (reports (take read bytes) (sym (take-all (length bytes) (take read bytes) (omega (arith, length-take-le read bytes (r .within), r .within))))) long

@@ -1,18 +1,21 @@
 -- What the answer of `parse` says: the number of the tests 6 and 11, and what a request asks for.
 use mathlib.Core.Path.{_≡_, refl, sym, ap, _∙_}
-use mathlib.Core.Bool.{cond}
+use mathlib.Core.Bool.{Bool, true, false, cond, not, _&&_, true≢false}
 use mathlib.Core.List.{List}
-use Prim.Native.Nat.{ℕ, zero, suc, _+_, _≤_}
+use Prim.Native.Nat.{ℕ, zero, suc, _+_, _≤_, _<_}
 use native.Mathlib.Omega.{arith}
 use lib.Dec.{eqb, eqb·suc-zero}
 use lib.ListN.{length, length-drop}
+use borrow.Author.Tests.{ltb-true}
 use Rattle.jumbled.proofs.Admission.{request-taken}
-use Rattle.program_request.specs.Line.{beforeFirst, afterFirst}
-use Rattle.program_request.specs.Request.{requestMethod, requestTolerance, requestPattern, requestText, badLine, requestNumber}
-use Rattle.program_request.specs.Parsing.{Asked, refusedWith, asked, meaning, between, Parses}
+use Rattle.program_request.specs.Line.{has, beforeFirst, afterFirst, goodLine}
+use Rattle.program_request.specs.Reading.{patternPlace}
+use Rattle.program_request.specs.Request.{firstLine, requestMethod, requestTolerance, requestPattern, requestText, badLine, requestNumber}
+use Rattle.program_request.specs.Parsing.{Asked, refusedWith, asked, meaning, between, Places, places, Parses}
 use Rattle.program_request.specs.declared.Parsed.{Parsed}
 use Rattle.program_request.specs.declared.Parsed.the-variants.{TooLong, BadLine, Request}
-use Rattle.program_request.proofs.Cuts.{after-drop}
+use Rattle.program_request.proofs.Cuts.{after-drop, has-cut}
+use Rattle.program_request.proofs.Splits.{pattern-within}
 use Rattle.program_request.proofs.Texts.{less-shorter}
 
 -- ---- the number of the tests 6 and 11, from what is answered
@@ -62,6 +65,16 @@ pub not-long : (input : List ℕ) → requestNumber input ≡ 0 → length input
 unfolding requestNumber
 not-long input e = request-taken (length input) (badLine input) e .short
 
+-- the newline is there, and the line before it is good
+good-first : (input : List ℕ) → requestNumber input ≡ 0 → (has 10 input ≡ true) × (goodLine (firstLine input) ≡ true)
+unfolding requestNumber badLine
+good-first input e = both (has 10 input) (goodLine (firstLine input)) (request-taken (length input) (badLine input) e .good)
+  where
+    both : (a b : Bool) → not (a && b) ≡ false → (a ≡ true) × (b ≡ true)
+    both true true q = (refl, refl)
+    both true false q = absurd (true≢false q)
+    both false b q = absurd (true≢false q)
+
 -- the text is no longer than the input
 pub text-shorter : (input : List ℕ) → length (requestText input) ≤ length input
 unfolding requestText
@@ -72,3 +85,36 @@ text-shorter input =
       ap length (after-drop 10 input),
       length-drop (length (beforeFirst 10 input) + 1) input,
     )
+
+-- ---- the places of a request lie within the input, in this order
+
+pub record Ordered (input : List ℕ) (from lineEnd end : ℕ) : Type 0 where
+  pub pattern : from ≤ lineEnd
+  pub text : lineEnd < end
+  pub within : end ≤ length input
+
+pub parsed-ordered : (input : List ℕ) {method k from lineEnd end : ℕ} → Parses input (Request method k from lineEnd end) → Ordered input from lineEnd end
+unfolding places requestText firstLine
+parsed-ordered input {method} {k} {from} {lineEnd} {end} p =
+    let none = answered input (Request method k from lineEnd end) p in
+    let stand = rw none at (p .stand) in
+    let good = good-first input none in
+    let from-is = ap (λ (q : Places). q .from) stand in
+    let line-is = ap (λ (q : Places). q .lineEnd) stand in
+    let end-is = ap (λ (q : Places). q .end) stand in
+    let newline = ltb-true (length (beforeFirst 10 input)) (length input) (sym (has-cut 10 input) ∙ good .0) in
+    let rest = ap length (after-drop 10 input) in
+    record {
+      pattern = omega (arith, from-is, line-is, pattern-within (firstLine input) (good .1));
+      text = omega (arith, line-is, end-is);
+      within =
+          omega (
+            arith,
+            line-is,
+            end-is,
+            newline,
+            rest,
+            less-shorter (afterFirst 10 input),
+            length-drop (length (beforeFirst 10 input) + 1) input,
+          );
+    }

@@ -2,6 +2,7 @@
 pub mod Cuts
 pub mod Fields
 pub mod Splits
+pub mod Lines
 pub mod Texts
 pub mod Requests
 pub mod Answered

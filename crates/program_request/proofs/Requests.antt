@@ -11,9 +11,12 @@ use borrow.Author.Tests.{lt-ltb, le-ltb}
 use Rattle.jumbled.specs.Refusals.{given, inputTests, lineTests, requestTests}
 use Rattle.program_request.specs.Line.{has, beforeFirst, afterFirst, goodLine, patternField}
 use Rattle.program_request.specs.Request.{lessNewline, firstLine, requestMethod, requestTolerance, requestPattern, requestText, badLine, requestNumber}
-use Rattle.program_request.specs.Reading.{LineFields}
-use Rattle.program_request.specs.Parsing.{Asked, asked, Parses, TextEnds}
+use Rattle.program_request.specs.Reading.{patternPlace}
+use Rattle.program_request.specs.Parsing.{Asked, asked, Places, places, Parses}
 use Rattle.program_request.specs.declared.Parsed.the-variants.{TooLong, BadLine, Request}
+use Rattle.program_request.proofs.Splits.{pattern-is}
+use Rattle.program_request.proofs.Texts.{less-first}
+use Rattle.program_request.proofs.Lines.{LineFields}
 use Rattle.program_request.proofs.Cuts.{before-take, after-drop, before-le, has-cut}
 
 -- a part of the first t elements is that part of all
@@ -29,12 +32,12 @@ not-good false b e = refl
 
 module _ (input : List ℕ) where
   pub too-long : 16384 < length input → Parses input TooLong
-  unfolding asked requestNumber requestTests inputTests lineTests given
-  too-long l = record { values = rw (lt-ltb 16384 (length input) l) refl; places = tt }
+  unfolding asked places requestNumber requestTests inputTests lineTests given
+  too-long l = let long = lt-ltb 16384 (length input) l in record { values = rw long refl; stand = rw long refl }
 
   pub bad-line : length input ≤ 16384 → badLine input ≡ true → Parses input BadLine
-  unfolding asked requestNumber requestTests inputTests lineTests given
-  bad-line l e = record { values = rw (le-ltb 16384 (length input) l, e) refl; places = tt }
+  unfolding asked places requestNumber requestTests inputTests lineTests given
+  bad-line l e = let taken = le-ltb 16384 (length input) l in record { values = rw (taken, e) refl; stand = rw (taken, e) refl }
 
   pub no-newline : has 10 input ≡ false → badLine input ≡ true
   unfolding badLine
@@ -64,31 +67,38 @@ module _ (input : List ℕ) (e : ℕ) (newline : e ≡ length (beforeFirst 10 in
   unfolding firstLine
   line-is = rw newline (before-take 10 input)
 
+  line-length : e ≡ length (firstLine input)
+  unfolding firstLine
+  line-length = newline
+
   rest-is : drop (e + 1) input ≡ afterFirst 10 input
   rest-is = rw newline (after-drop 10 input)
 
   -- a good line, and the text after it
   pub request : (method k from end : ℕ) → length input ≤ 16384 → e < length input → LineFields (take e input) method k from
-      → TextEnds input (e + 1) end → Parses input (Request method k from e end)
-  unfolding asked requestNumber requestTests inputTests lineTests given requestMethod requestTolerance requestPattern requestText
+      → end ≡ e + 1 + length (lessNewline (drop (e + 1) input)) → Parses input (Request method k from e end)
+  unfolding asked places requestNumber requestTests inputTests lineTests given requestMethod requestTolerance requestPattern requestText
   request method k from end l inside fields text =
+      let taken = le-ltb 16384 (length input) l in
+      let good = good-line input (newline-there inside) (rw line-is at (fields .good)) in
+      let from-is : from ≡ patternPlace (firstLine input) = rw line-is at (fields .from-is) in
+      let size : end - (e + 1) ≡ length (lessNewline (drop (e + 1) input)) = omega arith in
       record {
         values =
-            rw (
-              le-ltb 16384 (length input) l,
-              good-line input (newline-there inside) (rw line-is at (fields .good)),
-            )
+            rw (taken, good)
             (same (rw line-is at (fields .method-is)) (rw line-is at (fields .k-is))
-            (sym (drop-take input from e) ∙ fields .pattern-is ∙ ap patternField line-is) (text .text-is ∙ ap lessNewline rest-is));
-        places =
-            record {
-              pattern = omega (arith, fields .within, length-take-le e input newline-within);
-              text = omega (arith, text .least);
-              within = text .most;
-            };
+            (sym (drop-take input from e) ∙ ap (λ (l : List ℕ). drop from l) line-is ∙ ap (λ (n : ℕ). drop n (firstLine input)) from-is ∙ pattern-is (firstLine input))
+            (ap (λ (n : ℕ). take n (drop (e + 1) input)) size ∙ less-first (drop (e + 1) input) ∙ ap lessNewline rest-is));
+        stand =
+            rw (taken, good)
+            (stands from-is line-length (text ∙ ap (λ (l : List ℕ). e + 1 + length (lessNewline l)) rest-is ∙ ap (λ (n : ℕ). n + 1 + length (lessNewline (afterFirst 10 input))) line-length));
       }
     where
       same : {m₁ m₂ k₁ k₂ : ℕ} {P₁ P₂ T₁ T₂ : List ℕ} → m₁ ≡ m₂ → k₁ ≡ k₂ → P₁ ≡ P₂ → T₁ ≡ T₂
           → _≡_ {A = Asked} (record { refusal = 0; method = m₁; k = k₁; pattern = P₁; text = T₁ })
           (record { refusal = 0; method = m₂; k = k₂; pattern = P₂; text = T₂ })
       same a b c d = cc
+
+      stands : {f₁ f₂ l₁ l₂ e₁ e₂ : ℕ} → f₁ ≡ f₂ → l₁ ≡ l₂ → e₁ ≡ e₂
+          → _≡_ {A = Places} (record { from = f₁; lineEnd = l₁; end = e₁ }) (record { from = f₂; lineEnd = l₂; end = e₂ })
+      stands a b c = cc

@@ -6,8 +6,9 @@ use Prim.Native.Nat.{ℕ, _+_, _-_, _≤_, _<_}
 use native.Mathlib.Omega.{arith}
 use lib.ListN.{length, take, drop, length-drop}
 use lib.Seq.{take-all, drop-drop}
-use borrow.Author.Tests.{lt-ltb, le-ltb}
+use borrow.Author.Tests.{lt-ltb, le-ltb, ltb-true}
 use Rattle.program_request.specs.Line.{has, beforeFirst, afterFirst, methodForm, toleranceForm, methodField, toleranceField, patternField, goodLine}
+use Rattle.program_request.specs.Reading.{patternPlace}
 use Rattle.program_request.proofs.Cuts.{before-take, after-drop, before-le, has-cut}
 
 -- ---- the four conditions of a good line: each is needed, and together they are enough
@@ -58,6 +59,13 @@ module _ (line : List ℕ) where
   good-forms e =
       let all = and-both (has 32 line && has 32 (afterFirst 32 line) && methodForm (methodField line)) (toleranceForm (toleranceField line)) e in
       (and-both (has 32 line && has 32 (afterFirst 32 line)) (methodForm (methodField line)) (all .0) .1, all .1)
+
+  good-spaces : goodLine line ≡ true → (has 32 line ≡ true) × (has 32 (afterFirst 32 line) ≡ true)
+  unfolding goodLine
+  good-spaces e =
+      let forms = and-both (has 32 line && has 32 (afterFirst 32 line) && methodForm (methodField line)) (toleranceForm (toleranceField line)) e in
+      and-both (has 32 line) (has 32 (afterFirst 32 line))
+      (and-both (has 32 line && has 32 (afterFirst 32 line)) (methodForm (methodField line)) (forms .0) .0)
 
 -- ---- where the first space stands
 
@@ -112,10 +120,24 @@ module _ (line : List ℕ) (m n : ℕ) (first : m ≡ length (beforeFirst 32 lin
       let size : m + 1 + n - (m + 1) ≡ n = omega arith in
       rw (size, after-is line m first, second-is) (before-take 32 (afterFirst 32 line))
 
-  pub pattern-is : drop (m + 1 + n + 1) line ≡ patternField line
-  unfolding patternField
+  pub pattern-at : m + 1 + n + 1 ≡ patternPlace line
+  unfolding patternPlace methodField toleranceField
+  pattern-at = omega (arith, first, second-is)
+
+-- ---- where the pattern stands
+
+module _ (line : List ℕ) where
+  pub pattern-is : drop (patternPlace line) line ≡ patternField line
+  unfolding patternPlace methodField toleranceField patternField
   pattern-is =
-      let place : m + 1 + n + 1 ≡ m + 1 + (n + 1) = omega arith in
-      ap (λ (i : ℕ). drop i line) place
-      ∙ sym (drop-drop (n + 1) (m + 1) line)
-      ∙ rw (after-is line m first, second-is) (after-drop 32 (afterFirst 32 line))
+      sym (drop-drop (length (beforeFirst 32 (afterFirst 32 line)) + 1) (length (beforeFirst 32 line) + 1) line)
+      ∙ rw (after-drop 32 line) (after-drop 32 (afterFirst 32 line))
+
+  -- within the line, where that is good
+  pub pattern-within : goodLine line ≡ true → patternPlace line ≤ length line
+  unfolding patternPlace methodField toleranceField
+  pattern-within good =
+      let spaces = good-spaces line good in
+      let one = ltb-true (length (beforeFirst 32 line)) (length line) (sym (has-cut 32 line) ∙ spaces .0) in
+      let two = ltb-true (length (beforeFirst 32 (afterFirst 32 line))) (length (afterFirst 32 line)) (sym (has-cut 32 (afterFirst 32 line)) ∙ spaces .1) in
+      omega (arith, one, two, ap length (after-drop 32 line), length-drop (length (beforeFirst 32 line) + 1) line)

@@ -34,13 +34,13 @@ afterFirst c (b ∷ U) = cond (eqb b c) U (afterFirst c U)
 unfoldable pub digit : ℕ → Bool
 digit b = leb zeroDigit b && leb b 57
 
--- "method digit"
+-- The form of the method's field: a single digit
 unfoldable pub methodForm : List ℕ → Bool
 methodForm [] = false
 methodForm (a ∷ []) = digit a
 methodForm (a ∷ b ∷ more) = false
 
--- "k as one or two digits without a leading zero (zero itself is `0`)"
+-- The form of k's field: a single digit, or two of which the first is no zero
 unfoldable pub toleranceForm : List ℕ → Bool
 toleranceForm [] = false
 toleranceForm (a ∷ []) = digit a
@@ -52,8 +52,8 @@ unfoldable pub decimalValue : ℕ → List ℕ → ℕ
 decimalValue n [] = n
 decimalValue n (b ∷ F) = decimalValue (10 * n + (b - zeroDigit)) F
 
--- ---- the fields: "method digit, space, k .., space, pattern up to the newline". All that follows is said of every line, which comes without
--- its newline; where the line is bad, its fields have no meaning, and no answer depends on them.
+-- ---- the fields: method, k and pattern, parted by spaces. All that follows is said of every line, which comes without its newline; where the line
+-- is bad, its fields have no meaning, and no answer depends on them.
 
 -- up to the first space
 unfoldable pub methodField : List ℕ → List ℕ

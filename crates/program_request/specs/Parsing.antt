@@ -1,11 +1,12 @@
--- The answer of `parse`: document 01's number and values for each case of the enum, and what they have to be.
-use Prim.Native.Nat.{ℕ, _+_, _-_, _≤_, _<_}
+-- The answer of `parse`: what each case of the enum says, its number in document 01 and its values, and what they have to be.
+use Prim.Native.Nat.{ℕ, _+_, _-_}
 use mathlib.Core.Path.{_≡_}
 use mathlib.Core.Bool.{cond}
 use mathlib.Core.List.{List, []}
 use lib.Dec.{eqb}
 use lib.ListN.{length, take, drop}
-use Rattle.program_request.specs.Request.{requestMethod, requestTolerance, requestPattern, lessNewline, requestText, requestNumber}
+use Rattle.program_request.specs.Reading.{patternPlace}
+use Rattle.program_request.specs.Request.{firstLine, requestMethod, requestTolerance, requestPattern, requestText, requestNumber}
 use Rattle.program_request.specs.declared.Parsed.{Parsed}
 use Rattle.program_request.specs.declared.Parsed.the-variants.{TooLong, BadLine, Request}
 
@@ -50,25 +51,35 @@ meaning input (Request method k from lineEnd end) =
       text = between input (lineEnd + 1) end;
     }
 
--- The places lie within the input, in this order
-pub record Ordered (input : List ℕ) (from lineEnd end : ℕ) : Type 0 where
-  pub pattern : from ≤ lineEnd
-  pub text : lineEnd < end
-  pub within : end ≤ length input
+-- ---- where the pattern and the text stand
 
-abbrev pub Places : List ℕ → Parsed → Type 0
-Places input TooLong = Unit {0}
-Places input BadLine = Unit {0}
-Places input (Request method k from lineEnd end) = Ordered input from lineEnd end
+pub record Places : Type 0 where
+  pub from : ℕ
+  pub lineEnd : ℕ
+  pub end : ℕ
+
+abbrev pub noPlaces : Places
+noPlaces = record { from = 0; lineEnd = 0; end = 0 }
+
+-- The places of each case
+abbrev pub placesOf : Parsed → Places
+placesOf TooLong = noPlaces
+placesOf BadLine = noPlaces
+placesOf (Request method k from lineEnd end) = record { from = from; lineEnd = lineEnd; end = end }
+
+-- In an input that is not refused the pattern ends where the first line does, and the text begins after the newline there
+unfoldable pub places : List ℕ → Places
+places input =
+    cond (eqb (requestNumber input) 0)
+    (record {
+      from = patternPlace (firstLine input);
+      lineEnd = length (firstLine input);
+      end = length (firstLine input) + 1 + length (requestText input);
+    })
+    noPlaces
+
+-- ---- what `parse` yields
 
 pub record Parses (input : List ℕ) (answer : Parsed) : Type 0 where
   pub values : meaning input answer ≡ asked input
-  pub places : Places input answer
-
--- ---- what `text_end` yields
-
--- The text stands from `start` up to `end`
-pub record TextEnds (input : List ℕ) (start end : ℕ) : Type 0 where
-  pub text-is : between input start end ≡ lessNewline (drop start input)
-  pub least : start ≤ end
-  pub most : end ≤ length input
+  pub stand : placesOf answer ≡ places input

@@ -1,22 +1,40 @@
--- The answer of `first_line`: what it has to be in each case of the enum.
-use Prim.Native.Nat.{ℕ, _≤_}
+-- The answer of `first_line`: document 01's number and the values for each case of the enum, and what they have to be.
+use Prim.Native.Nat.{ℕ, _+_}
 use mathlib.Core.Path.{_≡_}
-use mathlib.Core.Bool.{true, false}
+use mathlib.Core.Bool.{cond}
 use mathlib.Core.List.{List}
-use lib.ListN.{length, drop}
-use Rattle.program_request.specs.Line.{decimalValue, methodField, toleranceField, patternField, goodLine}
+use lib.ListN.{length}
+use Rattle.program_request.specs.Line.{decimalValue, methodField, toleranceField, goodLine}
 use Rattle.program_request.specs.declared.FirstLine.{FirstLine}
 use Rattle.program_request.specs.declared.FirstLine.the-variants.{Bad, Fields}
 
--- The fields of a good line; its pattern stands from `from` on
-pub record LineFields (line : List ℕ) (method k from : ℕ) : Type 0 where
-  pub good : goodLine line ≡ true
-  pub method-is : method ≡ decimalValue 0 (methodField line)
-  pub k-is : k ≡ decimalValue 0 (toleranceField line)
-  pub pattern-is : drop from line ≡ patternField line
-  pub within : from ≤ length line
+-- What a first line says: the number with which it is refused, or 0, and then the method, k, and where in the line the pattern begins
+pub record LineParts : Type 0 where
+  pub refusal : ℕ
+  pub method : ℕ
+  pub k : ℕ
+  pub from : ℕ
 
--- Each case of the enum: a bad line is what the program refuses with 11
-abbrev pub LineRead : List ℕ → FirstLine → Type 0
-LineRead line Bad = goodLine line ≡ false
-LineRead line (Fields method k from) = LineFields line method k from
+abbrev pub lineRefused : LineParts
+lineRefused = record { refusal = 11; method = 0; k = 0; from = 0 }
+
+-- The number and the values of each case
+abbrev pub lineMeaning : FirstLine → LineParts
+lineMeaning Bad = lineRefused
+lineMeaning (Fields method k from) = record { refusal = 0; method = method; k = k; from = from }
+
+-- The pattern begins after the method, a space, k and a space
+unfoldable pub patternPlace : List ℕ → ℕ
+patternPlace line = length (methodField line) + 1 + (length (toleranceField line) + 1)
+
+-- What the line says
+unfoldable pub lineParts : List ℕ → LineParts
+lineParts line =
+    cond (goodLine line)
+    (record {
+      refusal = 0;
+      method = decimalValue 0 (methodField line);
+      k = decimalValue 0 (toleranceField line);
+      from = patternPlace line;
+    })
+    lineRefused

@@ -25,17 +25,17 @@ requestTolerance input = decimalValue 0 (toleranceField (firstLine input))
 unfoldable pub requestPattern : List ℕ → List ℕ
 requestPattern input = patternField (firstLine input)
 
--- U, less one last newline if it ends with one
+-- U without its last byte, where that is a newline
 unfoldable pub lessNewline : List ℕ → List ℕ
 lessNewline U = cond (eqb (getD U (length U - 1) 0) newline) (take (length U - 1) U) U
 
--- "The rest is the record, less one last newline if it ends with one."
+-- The text: all that follows the first line, without the newline that may end it
 unfoldable pub requestText : List ℕ → List ℕ
 requestText input = lessNewline (afterFirst newline input)
 
 -- ---- when the program says no: document 01, "When a call says no"
 
--- 11: "program input has no newline or a bad first line"
+-- 11: no newline at all, or a first line that does not have its form
 unfoldable pub badLine : List ℕ → Bool
 badLine input = not (has newline input && goodLine (firstLine input))
 

@@ -2,11 +2,12 @@
 
 ghost use mathlib.Core.Path.{_≡_};
 ghost use mathlib.Core.Bool.{true};
-ghost use Prim.Native.Nat.{_≤_};
-ghost use lib.ListN.{length};
+ghost use Prim.Native.Nat.{_+_, _≤_};
+ghost use lib.ListN.{length, drop};
 ghost use Rattle.program_request.specs.Line.{beforeFirst, digit, methodForm, toleranceForm, decimalValue};
-ghost use Rattle.program_request.specs.Reading.{LineRead};
-ghost use Rattle.program_request.specs.Parsing.{Parses, TextEnds};
+ghost use Rattle.program_request.specs.Reading.{lineMeaning, lineParts};
+ghost use Rattle.program_request.specs.Request.{lessNewline};
+ghost use Rattle.program_request.specs.Parsing.{Parses};
 
 // The place of the first `sought`, or the length where there is none.
 fn find(bytes: &[u8], sought: u8) -> usize
@@ -79,7 +80,7 @@ enum FirstLine {
 
 // Reads the first line, which comes without its newline.
 fn first_line(line: &[u8]) -> FirstLine
-    ensures { λ r. ⌜ LineRead (now (line .entry)) r ⌝ }
+    ensures { λ r. ⌜ lineMeaning r ≡ lineParts (now (line .entry)) ⌝ }
 {
     let method_end = find(line, b' ');
     if method_end == line.len() {
@@ -126,7 +127,7 @@ pub enum Parsed {
 // The end of the text that starts at `start`: one last newline is no part of it.
 fn text_end(input: &[u8], start: usize) -> usize
     requires { ⌜ start ≤ length (now input) ⌝ }
-    ensures { λ r. ⌜ TextEnds (now (input .entry)) start r ⌝ }
+    ensures { λ r. ⌜ r ≡ start + length (lessNewline (drop start (now (input .entry)))) ⌝ }
 {
     let end = input.len();
     if end == start {

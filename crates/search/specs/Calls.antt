@@ -21,7 +21,7 @@ use Rattle.search.specs.declared.FeedResult.{FeedResult}
 use Rattle.search.specs.declared.SaveResult.{SaveResult}
 use Rattle.search.specs.Searches.{patternOf, tailOf, partsOfSearch, stored, blankSearch}
 
--- The tests of a search handed in: "1 to 5, then 9 if the tail length isn't min(n, m − 1)". 1 comes first of the length that it says: no
+-- The tests of a search handed in: 1 to 5, and 9 for a tail of another length than n and m say. 1 comes first of the length that it says: no
 -- pattern over 64 is stored.
 unfoldable pub handedTests : Search → List Test
 handedTests s =
@@ -44,7 +44,7 @@ pub record Opened (P : List ℕ) (k method : ℕ) (r : SearchResult) : Type 0 wh
 unfoldable pub feedNumber : Search → List ℕ → List ℕ → ℕ
 feedNumber s chunk list = given (feedTests (handedTests s) (s .total) (length chunk) (length list))
 
--- "those of the set method over the tail followed by the piece"
+-- The text that a feed goes through by the search's method
 abbrev pub searchedText : Search → List ℕ → List ℕ
 searchedText s chunk = tailOf s ++ chunk
 
@@ -76,7 +76,7 @@ pub record Feeds (s : Search) (chunk before after : List ℕ) (r : FeedResult) :
   pub number : answerNumber (r .answer) ≡ feedNumber s chunk before
   pub found : answerFound (r .answer) ≡ unlessRefused (feedNumber s chunk before) (length (positions (patternOf s) (s .k) (searchedText s chunk))) 0
   pub inspections : answerInspections (r .answer) ≡ unlessRefused (feedNumber s chunk before) (steps (patternOf s) (s .k) (s .method) (searchedText s chunk) .inspections) 0
-  -- "with n − (tail length) added to each position"
+  -- positions count from the first byte fed: the tail starts at n less its length
   pub list :
       after
       ≡ unlessRefused (feedNumber s chunk before)
@@ -91,7 +91,7 @@ pub record Feeds (s : Search) (chunk before after : List ℕ) (r : FeedResult) :
 unfoldable pub setMethodNumber : Search → ℕ → ℕ
 setMethodNumber s newMethod = given (setMethodTests (handedTests s) (patternOf s) (s .k) newMethod)
 
--- "changes the method only"
+-- The search with another method, and all else as it came, bytes past the lengths included
 abbrev pub searchWithMethod : Search → ℕ → Search
 searchWithMethod s newMethod =
     record {

@@ -6,7 +6,7 @@ use Rattle.image_form.specs.Image.{Parts, partsWith}
 use Rattle.search_state.specs.Stored.{padded}
 use Rattle.search.specs.declared.Search.{Search}
 
--- Its five parts: "pattern, k, method, total n (32 bits), and the tail". Two searches are equal when these five are.
+-- Its pattern, its tail, and the five parts that it is compared by: bytes past the lengths are in none of them
 abbrev pub patternOf : Search → List ℕ
 patternOf s = take (s .«pattern_len») (s .pattern)
 
@@ -29,6 +29,6 @@ stored parts =
       «tail_len» = length (parts .tail);
     }
 
--- "The blank search has pattern length 0, k 0, method 1, n 0, no tail and every stored byte 0"
+-- The blank search: method 1, no pattern, no tail, and 0 everywhere else
 abbrev pub blankSearch : Search
 blankSearch = stored (partsWith [] 0 1 0 [])

@@ -48,9 +48,9 @@ pub struct SaveResult {
 
 impl Search {
     // The longest pattern,
-    pub const LONGEST_PATTERN: usize = 64;
-    // the longest text or chunk,
-    pub const LONGEST_CHUNK: usize = admit_chunk::LONGEST_TEXT;
+    pub const LONGEST_PATTERN: usize = admit_pattern::LONGEST_PATTERN;
+    // the longest chunk, which is as long as the longest text,
+    pub const LONGEST_CHUNK: usize = search_whole::LONGEST_TEXT;
     // and the blank search.
     pub const BLANK: Search = Search {
         pattern: [0; 64],
@@ -218,11 +218,12 @@ impl Search {
                 search: self,
             };
         }
-        let limits = admit_chunk::limits(self.total, chunk.len(), list.len());
+        let longest = Search::LONGEST_CHUNK;
+        let limits = admit_chunk::limits(longest, self.total, chunk.len(), list.len());
         if let Admission::Refused(refusal) = limits {
             return FeedResult {
                 answer: Answer::Refused(refusal),
-                search: self,
+                search: self, // as it came, and the list too
             };
         }
         let counts = admitted.counts;

@@ -8,8 +8,8 @@ use Rattle.search.specs.declared.Search.{Search}
 use Rattle.search.specs.declared.SaveResult.{SaveResult}
 use Rattle.search.specs.Calls.{Saves}
 use Rattle.search_series.specs.History.{Ledger, holds, Copy, broughtBack}
-use Rattle.search_series.specs.Series.{KeptAs, latest, older, writtenImage}
-use Rattle.search_series.proofs.Ledgers.{ledgerParts, SoundLedger, Represents, save-image}
+use Rattle.search_series.specs.Series.{KeptAs, latest, older, writtenImage, ledgerParts}
+use Rattle.search_series.proofs.Ledgers.{SoundLedger, Represents, save-image}
 
 pub data CopiesInvariant : List Copy → Type 0 where
   none : CopiesInvariant []

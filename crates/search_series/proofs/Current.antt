@@ -12,8 +12,8 @@ use Rattle.search.specs.declared.SaveResult.{SaveResult}
 use Rattle.search.specs.Searches as Searches
 use Rattle.search.specs.Calls.{Feeds, SetsMethod, Saves}
 use Rattle.search_series.specs.History.{Ledger, Current, blank, holds, Copy, withChunk, ledgerWithMethod, changed, keep}
-use Rattle.search_series.specs.Series.{writtenImage}
-use Rattle.search_series.proofs.Ledgers.{Represents, feed-represents, feed-while-blank, set-represents, set-while-blank}
+use Rattle.search_series.specs.Series.{writtenImage, AfterCall}
+use Rattle.search_series.proofs.Ledgers.{Represents, agrees, feed-represents, feed-while-blank, set-represents, set-while-blank}
 use Rattle.search_series.proofs.Copies.{CopiesInvariant, copy-kept}
 
 pub data RepresentsCurrent : Current → Search → Type 0 where
@@ -28,6 +28,10 @@ represents {s = s} (is-held {L = M} now) L q = let same : M ≡ L = cc in subst 
 pub blank-search : {c : Current} {s : Search} → RepresentsCurrent c s → c ≡ blank → s ≡ Searches.blankSearch
 blank-search (is-blank e) q = e
 blank-search (is-held now) q = absurd (let z : _≡_ {A = ℕ} 0 1 = cc in omega arith)
+
+pub agrees-current : {c : Current} {s : Search} → RepresentsCurrent c s → AfterCall c s
+agrees-current (is-blank e) = e
+agrees-current (is-held now) = agrees now
 
 -- a call that changes nothing
 pub unchanged : {c : Current} {s : Search} → RepresentsCurrent c s → {next : Search} → next ≡ s → RepresentsCurrent c next

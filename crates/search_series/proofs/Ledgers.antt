@@ -1,42 +1,35 @@
 -- A ledger and the search that represents it, call by call.
 use mathlib.Core.Path.{_≡_, sym, ap, ap₂, _∙_, subst}
 use mathlib.Core.List.{List, [], _++_}
-use Prim.Native.Nat.{ℕ, suc, _+_, _-_, _≤_, _<_, _^_}
+use Prim.Native.Nat.{ℕ, _+_, _-_, _≤_, _<_, _^_}
 use native.Mathlib.Omega.{arith}
-use lib.Dec.{eqb·suc-zero}
 use lib.ListN.{length, take, length-append, length-drop}
 use lib.Seq.{drop-nil}
 use Rattle.jumbled.specs.Match.{matches, window, starts, select, positions}
 use Rattle.jumbled.specs.Steps.{steps}
 use Rattle.jumbled.specs.Refusals.{given, tailLength, patternTests}
-use Rattle.jumbled.proofs.Admission.{admitted}
+use Rattle.jumbled.proofs.Admission.{admitted, search-right}
 use Rattle.lent.specs.Placed.{placed, shifted}
 use Rattle.lent.proofs.Placing.{length-shifted}
-use Rattle.image_form.specs.Image.{Parts, partsWith, image, saveOrder}
+use Rattle.image_form.specs.Image.{partsWith, image, saveOrder}
 use Rattle.image_form.specs.Decode.{partsOf}
 use Rattle.image_form.proofs.Images.{save-order}
 use Rattle.answers.specs.Numbers.{admissionNumber}
 use Rattle.search.specs.declared.Search.{Search}
-use Rattle.answers.specs.declared.Answer.{Answer}
 use Rattle.search.specs.declared.SearchResult.{SearchResult}
 use Rattle.search.specs.declared.FeedResult.{FeedResult}
 use Rattle.search.specs.declared.SaveResult.{SaveResult}
-use Rattle.answers.specs.Answers.{answerNumber, answerFound, savingNumber, savingLength}
-use Rattle.search_whole.specs.Whole.{Whole, wholeNumber}
+use Rattle.answers.specs.Answers.{answerNumber, savingNumber}
 use Rattle.search_state.specs.Stored.{lastOf}
 use Rattle.search.specs.Searches.{patternOf, stored, blankSearch}
-use Rattle.search.specs.Calls.{Opened, openNumber, Feeds, feedNumber, searchedText, fedParts, SetsMethod, setMethodNumber, Saves, saveNumber, imageOf, Loads, loadNumber}
+use Rattle.search.specs.Calls.{handedNumber, partsTests, Opened, openNumber, Feeds, feedNumber, searchedText, fedParts, SetsMethod, setMethodNumber, Saves, saveNumber, imageOf, Loads, loadNumber}
 use Rattle.search_series.specs.History.{Ledger, startWith, withChunk, ledgerWithMethod, ledgerReport}
-use Rattle.search_series.specs.Series.{writtenImage, Reports, Agrees}
+use Rattle.search_series.specs.Series.{writtenImage, ledgerTail, ledgerParts, ledgerSearch, Reports, Agrees}
+use Rattle.search_series.proofs.Contracts.{whole-accepted, FeedAccepted, feed-accepted, set-accepted, SaveAccepted, save-accepted, open-accepted, load-accepted}
 use Rattle.search_series.proofs.Reports.{positions-append, report-by-tail, tail-after}
-use Rattle.search_series.proofs.Tests.{pattern-stored, tail-stored, parts-stored, feed-total, set-admitted, feed-blank, set-blank, save-blank, take-placed-first, load-parts, load-taken}
+use Rattle.search_series.proofs.Tests.{pattern-stored, tail-stored, parts-stored, handed-stored, feed-total, set-admitted, feed-blank, set-blank, save-blank, take-placed-first, load-parts, load-taken}
 
 -- ---- what the search holds
-
--- the parts of the search, by the ledger
-abbrev pub ledgerParts : Ledger → Parts
-ledgerParts L =
-    partsWith (L .pattern) (L .k) (L .method) (length (L .text)) (lastOf (tailLength (length (L .pattern)) (length (L .text))) (L .text))
 
 pub record SoundLedger (L : Ledger) : Type 0 where
   pub taken : given (patternTests (L .pattern) (L .k) (L .method)) ≡ 0
@@ -46,24 +39,33 @@ pub record SoundLedger (L : Ledger) : Type 0 where
 -- the search represents the ledger
 pub record Represents (L : Ledger) (s : Search) : Type 0 where
   pub sound : SoundLedger L
-  pub held : s ≡ stored (ledgerParts L)
+  pub held : s ≡ ledgerSearch L
 
 -- ---- what agrees with the ledger
 
-pub agrees : (L : Ledger) → SoundLedger L → Agrees L
-agrees L sound = record { reported = sound .reported; whole-list = listed; whole-found = counted }
+-- the tail is as long as it should be
+tail-length : (L : Ledger) → length (ledgerTail L) ≡ tailLength (length (L .pattern)) (length (L .text))
+tail-length L =
+    length-drop (length (L .text) - tailLength (length (L .pattern)) (length (L .text))) (L .text) ∙ back (length (L .text)) _ (omega arith)
   where
-    listed : (method : ℕ) (before after : List ℕ) (r : Answer) → Whole (L .pattern) (L .k) method (L .text) before after r → answerNumber r ≡ 0
-        → after ≡ placed before 0 (L .reported)
-    listed method before after r contract e =
-        let taken : wholeNumber (L .pattern) (L .k) method (L .text) before ≡ 0 = sym (contract .number) ∙ e in
-        rw taken at (contract .list) ∙ ap (placed before 0) (sym (sound .reported))
+    back : (n t : ℕ) → t ≤ n → n - (n - t) ≡ t
+    back n t h = omega arith
 
-    counted : (method : ℕ) (before after : List ℕ) (r : Answer) → Whole (L .pattern) (L .k) method (L .text) before after r → answerNumber r ≡ 0
-        → answerFound r ≡ length (L .reported)
-    counted method before after r contract e =
-        let taken : wholeNumber (L .pattern) (L .k) method (L .text) before ≡ 0 = sym (contract .number) ∙ e in
-        rw taken at (contract .found) ∙ ap length (sym (sound .reported))
+ledger-in-order : (L : Ledger) → SoundLedger L → handedNumber (ledgerSearch L) ≡ 0
+unfolding partsTests
+ledger-in-order L sound =
+    handed-stored (ledgerParts L)
+    ∙ search-right (L .pattern) (L .k) (L .method) (length (L .text)) (length (ledgerTail L)) (sound .taken) (tail-length L)
+
+pub agrees : {L : Ledger} {s : Search} → Represents L s → Agrees L s
+agrees {L} now =
+    record {
+      search = now .held;
+      in-order = ap handedNumber (now .held) ∙ ledger-in-order L (now .sound);
+      reported = now .sound .reported;
+      whole-list = λ method before after r contract ok. whole-accepted contract ok .list ∙ ap (placed before 0) (sym (now .sound .reported));
+      whole-found = λ method before after r contract ok. whole-accepted contract ok .found ∙ ap length (sym (now .sound .reported));
+    }
 
 -- ---- open
 
@@ -85,30 +87,17 @@ module _ {P : List ℕ} {k method : ℕ} {r : SearchResult} (contract : Opened P
       record {
         sound = fresh (opened-admitted ok);
         held =
-            rw ok at (contract .search)
+            open-accepted contract e
             ∙ ap (λ (tail : List ℕ). stored (partsWith P k method 0 tail)) (sym (drop-nil (0 - tailLength (length P) 0)));
       }
     where
       fresh : given (patternTests P k method) ≡ 0 → SoundLedger (startWith P k method)
       fresh ok = record { taken = ok; reported = sym (positions-nil P k (admitted P k method ok .some)); fits = omega arith }
 
-  pub open-refused : (n : ℕ) → admissionNumber (r .admission) ≡ suc n → r .search ≡ blankSearch
-  open-refused n e =
-      let no : openNumber P k method ≡ suc n = sym (contract .number) ∙ e in
-      rw (no, eqb·suc-zero n) at (contract .search)
-
 -- ---- feed
 
--- the tail is as long as it should be
-tail-length : (L : Ledger) → length (ledgerParts L .tail) ≡ tailLength (length (L .pattern)) (length (L .text))
-tail-length L =
-    length-drop (length (L .text) - tailLength (length (L .pattern)) (length (L .text))) (L .text) ∙ back (length (L .text)) _ (omega arith)
-  where
-    back : (n t : ℕ) → t ≤ n → n - (n - t) ≡ t
-    back n t h = omega arith
-
 module _ (L : Ledger) (chunk : List ℕ) where
-  fed-parts : fedParts (stored (ledgerParts L)) chunk ≡ ledgerParts (withChunk chunk L)
+  fed-parts : fedParts (ledgerSearch L) chunk ≡ ledgerParts (withChunk chunk L)
   fed-parts =
       ap₂
       (λ (P tail : List ℕ). partsWith P (L .k) (L .method) (length (L .text) + length chunk)
@@ -125,60 +114,58 @@ module _ (L : Ledger) (chunk : List ℕ) where
         fits = omega (arith, length-append (L .text) chunk);
       }
 
-  module _ {before after : List ℕ} {r : FeedResult} (right : SoundLedger L) (contract : Feeds (stored (ledgerParts L)) chunk before after r) (e : answerNumber (r .answer) ≡ 0) where
-    ok : feedNumber (stored (ledgerParts L)) chunk before ≡ 0
+  module _ {before after : List ℕ} {r : FeedResult} (right : SoundLedger L) (contract : Feeds (ledgerSearch L) chunk before after r) (e : answerNumber (r .answer) ≡ 0) where
+    ok : feedNumber (ledgerSearch L) chunk before ≡ 0
     ok = sym (contract .number) ∙ e
 
-    held-fed : Represents (withChunk chunk L) (r .search)
-    held-fed =
+    accepted : FeedAccepted (ledgerSearch L) chunk before after r
+    accepted = feed-accepted contract e
+
+    fed-represents : Represents (withChunk chunk L) (r .search)
+    fed-represents =
         record {
-          sound = fed-sound right (feed-total (stored (ledgerParts L)) chunk before ok);
-          held = rw ok at (contract .search) ∙ ap stored fed-parts;
+          sound = fed-sound right (feed-total (ledgerSearch L) chunk before ok);
+          held = accepted .search ∙ ap stored fed-parts;
         }
 
     -- its positions, before they are shifted
     reached-positions :
-        positions (patternOf (stored (ledgerParts L))) (L .k) (searchedText (stored (ledgerParts L)) chunk)
-        ≡ positions (L .pattern) (L .k) (ledgerParts L .tail ++ chunk)
+        positions (patternOf (ledgerSearch L)) (L .k) (searchedText (ledgerSearch L) chunk)
+        ≡ positions (L .pattern) (L .k) (ledgerTail L ++ chunk)
     reached-positions =
         ap₂ (λ (P tail : List ℕ). positions P (L .k) (tail ++ chunk)) (pattern-stored (ledgerParts L)) (tail-stored (ledgerParts L))
 
-    by-tail : shifted (length (L .text) - length (ledgerParts L .tail)) (positions (L .pattern) (L .k) (ledgerParts L .tail ++ chunk)) ≡ ledgerReport L chunk
+    by-tail : shifted (length (L .text) - length (ledgerTail L)) (positions (L .pattern) (L .k) (ledgerTail L ++ chunk)) ≡ ledgerReport L chunk
     by-tail =
-        ap (λ (t : ℕ). shifted (length (L .text) - t) (positions (L .pattern) (L .k) (ledgerParts L .tail ++ chunk))) (tail-length L)
+        ap (λ (t : ℕ). shifted (length (L .text) - t) (positions (L .pattern) (L .k) (ledgerTail L ++ chunk))) (tail-length L)
         ∙ report-by-tail (L .pattern) (L .k) (L .text) chunk (admitted (L .pattern) (L .k) (L .method) (right .taken) .some)
 
-    held-reports : Reports L chunk before after r
-    held-reports =
+    fed-reports : Reports L chunk before after r
+    fed-reports =
         record {
           list =
-              rw ok at (contract .list)
-              ∙ ap (placed before 0) (ap (shifted (length (L .text) - length (ledgerParts L .tail))) reached-positions ∙ by-tail);
+              accepted .list
+              ∙ ap (placed before 0) (ap (shifted (length (L .text) - length (ledgerTail L))) reached-positions ∙ by-tail);
           found =
-              rw ok at (contract .found)
+              accepted .found
               ∙ ap length reached-positions
-              ∙ sym (length-shifted (length (L .text) - length (ledgerParts L .tail)) (positions (L .pattern) (L .k) (ledgerParts L .tail ++ chunk)))
+              ∙ sym (length-shifted (length (L .text) - length (ledgerTail L)) (positions (L .pattern) (L .k) (ledgerTail L ++ chunk)))
               ∙ ap length by-tail;
           inspections =
-              rw ok at (contract .inspections)
+              accepted .inspections
               ∙ ap₂ (λ (P tail : List ℕ). steps P (L .k) (L .method) (tail ++ chunk) .inspections) (pattern-stored (ledgerParts L)) (tail-stored (ledgerParts L));
         }
 
 module _ {s : Search} {chunk before after : List ℕ} {r : FeedResult} (contract : Feeds s chunk before after r) where
   module _ {L : Ledger} (now : Represents L s) (e : answerNumber (r .answer) ≡ 0) where
-    contract-held : Feeds (stored (ledgerParts L)) chunk before after r
+    contract-held : Feeds (ledgerSearch L) chunk before after r
     contract-held = subst (λ (held : Search). Feeds held chunk before after r) (now .held) contract
 
     pub feed-represents : Represents (withChunk chunk L) (r .search)
-    feed-represents = held-fed L chunk (now .sound) contract-held e
+    feed-represents = fed-represents L chunk (now .sound) contract-held e
 
     pub feed-reports : Reports L chunk before after r
-    feed-reports = held-reports L chunk (now .sound) contract-held e
-
-  pub feed-refused : (n : ℕ) → answerNumber (r .answer) ≡ suc n → r .search ≡ s
-  feed-refused n e =
-      let no : feedNumber s chunk before ≡ suc n = sym (contract .number) ∙ e in
-      rw (no, eqb·suc-zero n) at (contract .search)
+    feed-reports = fed-reports L chunk (now .sound) contract-held e
 
   pub feed-while-blank : s ≡ blankSearch → answerNumber (r .answer) ≡ 1
   feed-while-blank e = contract .number ∙ ap (λ (held : Search). feedNumber held chunk before) e ∙ feed-blank chunk before
@@ -189,23 +176,18 @@ module _ {s : Search} {newMethod : ℕ} {r : SearchResult} (contract : SetsMetho
   pub set-represents : {L : Ledger} → Represents L s → admissionNumber (r .admission) ≡ 0 → Represents (ledgerWithMethod newMethod L) (r .search)
   set-represents {L} now e =
       let contract-held = subst (λ (held : Search). SetsMethod held newMethod r) (now .held) contract in
-      let ok : setMethodNumber (stored (ledgerParts L)) newMethod ≡ 0 = sym (contract-held .number) ∙ e in
+      let ok : setMethodNumber (ledgerSearch L) newMethod ≡ 0 = sym (contract-held .number) ∙ e in
       record {
         sound =
             record {
               taken =
                   ap (λ (P : List ℕ). given (patternTests P (L .k) newMethod)) (sym (pattern-stored (ledgerParts L)))
-                  ∙ set-admitted (stored (ledgerParts L)) newMethod ok;
+                  ∙ set-admitted (ledgerSearch L) newMethod ok;
               reported = now .sound .reported;
               fits = now .sound .fits;
             };
-        held = rw ok at (contract-held .search);
+        held = set-accepted contract-held e;
       }
-
-  pub set-refused : (n : ℕ) → admissionNumber (r .admission) ≡ suc n → r .search ≡ s
-  set-refused n e =
-      let no : setMethodNumber s newMethod ≡ suc n = sym (contract .number) ∙ e in
-      rw (no, eqb·suc-zero n) at (contract .search)
 
   pub set-while-blank : s ≡ blankSearch → admissionNumber (r .admission) ≡ 1
   set-while-blank e = contract .number ∙ ap (λ (held : Search). setMethodNumber held newMethod) e ∙ set-blank newMethod
@@ -216,10 +198,8 @@ module _ {s : Search} {before after : List ℕ} {r : SaveResult} (contract : Sav
   -- what was written is the image of the search
   pub save-written : savingNumber (r .saving) ≡ 0 → writtenImage after r ≡ imageOf s
   save-written e =
-      let ok : saveNumber s before ≡ 0 = sym (contract .number) ∙ e in
-      let len : savingLength (r .saving) ≡ length (imageOf s) = rw ok at (contract .len) in
-      let filled : after ≡ placed before 0 (imageOf s) = rw ok at (contract .buffer) in
-      ap₂ (λ (n : ℕ) (l : List ℕ). take n l) len filled ∙ take-placed-first before (imageOf s)
+      let accepted : SaveAccepted s before after r = save-accepted contract e in
+      ap₂ (λ (n : ℕ) (l : List ℕ). take n l) (accepted .len) (accepted .buffer) ∙ take-placed-first before (imageOf s)
 
   -- and so of the ledger
   pub save-image : {L : Ledger} → Represents L s → savingNumber (r .saving) ≡ 0 → writtenImage after r ≡ image saveOrder (ledgerParts L)
@@ -236,20 +216,15 @@ module _ {bytes : List ℕ} {r : SearchResult} (contract : Loads bytes r) where
     load-ok : loadNumber bytes ≡ 0
     load-ok = ap loadNumber (sym e) ∙ load-taken save-order (ledgerParts L) (sound .taken) (tail-length L) (sound .fits)
 
-    pub load-accepted : admissionNumber (r .admission) ≡ 0
-    load-accepted = contract .number ∙ load-ok
+    pub load-takes : admissionNumber (r .admission) ≡ 0
+    load-takes = contract .number ∙ load-ok
 
     pub load-represents : Represents L (r .search)
     load-represents =
         record {
           sound = sound;
           held =
-              rw load-ok at (contract .search)
+              load-accepted contract load-takes
               ∙ ap (λ (b : List ℕ). stored (partsOf b)) (sym e)
               ∙ ap stored (load-parts save-order (ledgerParts L) (sound .taken) (tail-length L) (sound .fits));
         }
-
-  pub load-refused : (n : ℕ) → admissionNumber (r .admission) ≡ suc n → r .search ≡ blankSearch
-  load-refused n e =
-      let no : loadNumber bytes ≡ suc n = sym (contract .number) ∙ e in
-      rw (no, eqb·suc-zero n) at (contract .search)

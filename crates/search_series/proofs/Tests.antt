@@ -1,20 +1,20 @@
 -- What the tests of a call say of the parts that a search holds.
-use mathlib.Core.Path.{_≡_, refl, ap₂, _∙_}
+use mathlib.Core.Path.{_≡_, refl, ap, ap₂, _∙_}
 use mathlib.Core.Bool.{Bool}
-use mathlib.Core.List.{List}
+use mathlib.Core.List.{List, _++_}
 use Prim.Native.Nat.{ℕ, _+_, _-_, _<_, _^_}
 use native.Mathlib.Omega.{arith}
 use lib.ListN.{length, take, drop, replicate}
 use lib.Seq.{take-append-seam}
-use Rattle.jumbled.specs.Refusals.{given, lengthTests, tailLength, formTests, bufferTests, methodTests, patternTests, chunkTests, feedTests, setMethodTests, saveTests, loadTests}
-use Rattle.jumbled.proofs.Admission.{given-append-none, Admitted, admitted, method-changed, chunk-taken, search-right}
+use Rattle.jumbled.specs.Refusals.{given, lengthTests, tailLength, formTests, bufferTests, methodTests, patternTests, searchTests, chunkTests, feedTests, setMethodTests, saveTests, loadTests}
+use Rattle.jumbled.proofs.Admission.{given-append-none, Admitted, admitted, method-changed, chunk-taken, search-right, length-again}
 use Rattle.lent.specs.Placed.{placed}
 use Rattle.image_form.specs.Image.{Parts, partsWith, image, IsOrder, Sized}
 use Rattle.image_form.specs.Decode.{partsOf}
 use Rattle.image_form.proofs.Images.{image-taken, parts-back}
 use Rattle.search.specs.declared.Search.{Search}
 use Rattle.search.specs.Searches.{patternOf, tailOf, partsOfSearch, stored, blankSearch}
-use Rattle.search.specs.Calls.{handedTests, handedNumber, feedNumber, setMethodNumber, imageOf, saveNumber, partsTests, loadNumber}
+use Rattle.search.specs.Calls.{handedTests, handedNumber, feedNumber, setMethodNumber, imageOf, saveNumber, partsTests, partsNumber, loadNumber}
 use Rattle.search.proofs.Handed.{handed-numbered, sound}
 
 -- ---- the parts of a search that `stored` gives
@@ -28,6 +28,13 @@ tail-stored parts = take-append-seam (parts .tail) (replicate (63 - length (part
 pub parts-stored : (parts : Parts) → partsOfSearch (stored parts) ≡ parts
 parts-stored parts =
     ap₂ (λ (P tail : List ℕ). partsWith P (parts .k) (parts .method) (parts .total) tail) (pattern-stored parts) (tail-stored parts)
+
+-- its tests are those of its parts
+pub handed-stored : (parts : Parts) → handedNumber (stored parts) ≡ partsNumber parts
+unfolding handedNumber handedTests partsTests
+handed-stored parts =
+    ap (λ (P : List ℕ). given (lengthTests (length (parts .pattern)) ++ searchTests P (parts .k) (parts .method) (parts .total) (length (parts .tail)))) (pattern-stored parts)
+    ∙ length-again (parts .pattern) (parts .k) (parts .method) (parts .total) (length (parts .tail))
 
 -- ---- an accepted feed: n stays within 32 bits
 

@@ -1,5 +1,6 @@
--- The history of a series of calls: document 01, "The ledger". It is told the fresh search's P, k and method, the calls, their arguments,
--- which were refused and the images that accepted saves wrote, nothing else. Document 01 calls a text a record, and a chunk a piece.
+-- The history of a series of calls: document 01, "The ledger". Of the fresh search it knows pattern, k and method, and of each call its
+-- arguments, whether it was refused, and what image an accepted save wrote; it sees no answer. Document 01 calls a text a record, a chunk a
+-- piece, and the history without its copies the ledger.
 use mathlib.Core.Bool.{_&&_}
 use mathlib.Core.List.{List, [], _∷_, _++_}
 use Prim.Native.Nat.{ℕ, zero, suc, _+_}
@@ -7,7 +8,7 @@ use lib.Dec.{ltb}
 use lib.ListN.{length}
 use Rattle.jumbled.specs.Match.{matches, window, starts, select}
 
--- "It holds P, k, the method, the record and the reports."
+-- What it keeps of one search; `reported` are all reports so far, joined
 pub record Ledger : Type 0 where
   pub pattern : List ℕ
   pub k : ℕ
@@ -15,12 +16,12 @@ pub record Ledger : Type 0 where
   pub text : List ℕ
   pub reported : List ℕ
 
--- "the ledger is blank until the next accepted open or load"
+-- A ledger, or none: blank, from a refused open or load on
 pub data Current : Type 0 where
   blank : Current
   holds : Ledger → Current
 
--- "a copy of the ledger is kept with the image written"
+-- What an accepted save leaves: the ledger as it then was, and the image that the save wrote
 pub record Copy : Type 0 where
   pub image : List ℕ
   pub ledger : Ledger
@@ -42,8 +43,8 @@ verdict zero = accepted
 verdict (suc n) = refused
 
 -- A call with its arguments. Of an accepted save it is told the image that it wrote. Of an accepted load it is told which of the kept copies
--- is meant, by how many copies were kept after that one, so that "the claim holds with the copy of each" where several saves wrote equal
--- images.
+-- is meant, by how many copies were kept after that one: where several saves wrote equal images, any of them may be, and what is claimed is
+-- claimed for each.
 pub data Event : Type 0 where
   opened : (P : List ℕ) (k method : ℕ) → Verdict → Event
   fed : (chunk : List ℕ) → Verdict → Event
@@ -54,11 +55,11 @@ pub data Event : Type 0 where
 
 -- ---- what it then holds
 
--- "Start: P, k and method of the fresh search; record and reports empty."
+-- "Start": nothing searched yet, nothing reported
 abbrev pub startWith : List ℕ → ℕ → ℕ → Ledger
 startWith P k method = record { pattern = P; k = k; method = method; text = []; reported = [] }
 
--- "its report is every s whose window matches in the record followed by the piece and has its last reading in the piece, ascending"
+-- The report of a feed ("Accepted feed"): of the matching windows of the longer text those that end in the chunk, by their starts, in rising order
 unfoldable pub reportOf : List ℕ → ℕ → List ℕ → List ℕ → List ℕ
 reportOf P k text chunk =
     select (λ s. matches P k (window (length P) (text ++ chunk) s) && ltb (length text) (s + length P)) 0 (starts (length P) (text ++ chunk))
@@ -66,7 +67,7 @@ reportOf P k text chunk =
 abbrev pub ledgerReport : Ledger → List ℕ → List ℕ
 ledgerReport L chunk = reportOf (L .pattern) (L .k) (L .text) chunk
 
--- "Then the piece is added at the end of the record, the report at the end of the reports."
+-- Once a chunk was fed: text and reports have both grown at their ends
 abbrev pub withChunk : List ℕ → Ledger → Ledger
 withChunk chunk L =
     record {
@@ -77,7 +78,7 @@ withChunk chunk L =
       reported = L .reported ++ ledgerReport L chunk;
     }
 
--- "Accepted set method: the method becomes the one given."
+-- Once the method was set: only the method is another
 abbrev pub ledgerWithMethod : ℕ → Ledger → Ledger
 ledgerWithMethod method L = record { pattern = L .pattern; k = L .k; method = method; text = L .text; reported = L .reported }
 
@@ -86,7 +87,7 @@ abbrev pub changed : (Ledger → Ledger) → Current → Current
 changed change blank = blank
 changed change (holds L) = holds (change L)
 
--- "Accepted save: a copy of the ledger is kept with the image written."
+-- One copy more, of the current ledger
 abbrev pub keep : List ℕ → Current → List Copy → List Copy
 keep image blank kept = kept
 keep image (holds L) kept = record { image = image; ledger = L } ∷ kept
@@ -99,21 +100,21 @@ broughtBack (copy ∷ kept) (suc which) = broughtBack kept which
 
 -- One call more
 unfoldable pub afterEvent : History → Event → History
--- "An accepted open starts it anew with its own arguments."
+-- a new search: only the kept copies stay
 afterEvent h (opened P k method accepted) = record { current = holds (startWith P k method); kept = h .kept }
 afterEvent h (fed chunk accepted) = record { current = changed (withChunk chunk) (h .current); kept = h .kept }
 afterEvent h (methodSet method accepted) = record { current = changed (ledgerWithMethod method) (h .current); kept = h .kept }
 afterEvent h (saved image accepted) = record { current = h .current; kept = keep image (h .current) (h .kept) }
--- "Accepted, it brings back the copy kept at that save."
+-- the search goes on where the copy was kept
 afterEvent h (loaded bytes which accepted) = record { current = broughtBack (h .kept) which; kept = h .kept }
--- "Refused open or load: the ledger is blank until the next accepted open or load; kept copies stay."
+-- open and load that are refused hand back the blank search
 afterEvent h (opened P k method refused) = record { current = blank; kept = h .kept }
 afterEvent h (loaded bytes which refused) = record { current = blank; kept = h .kept }
--- "Any other refused call: no change."
+-- every other refused call leaves all as it was
 afterEvent h (fed chunk refused) = h
 afterEvent h (methodSet method refused) = h
 afterEvent h (saved image refused) = h
--- A whole search shares no search with any call.
+-- a whole search has no part in it, accepted or refused
 afterEvent h (searched P k method text verdict) = h
 
 -- The history after some calls, the latest first, on the fresh search for P, k and method

@@ -4,6 +4,9 @@ ghost use Rattle.search_whole.specs.Whole.{Whole};
 use answers::Admission;
 use answers::Answer;
 
+// The longest text.
+pub const LONGEST_TEXT: usize = 65536;
+
 // All of the text at once, its positions in the list's first places.
 pub fn whole(pattern: &[u8], k: u8, method: u8, text: &[u8], list: &mut [u32]) -> Answer
     ensures { λ r. ⌜ Whole (now (pattern .entry)) k method (now (text .entry)) (now (list .entry)) (now (list .exit)) r ⌝ }
@@ -13,7 +16,7 @@ pub fn whole(pattern: &[u8], k: u8, method: u8, text: &[u8], list: &mut [u32]) -
     if let Admission::Refused(refusal) = admission {
         return Answer::Refused(refusal);
     }
-    let limits = admit_chunk::limits(0, text.len(), list.len());
+    let limits = admit_chunk::limits(LONGEST_TEXT, 0, text.len(), list.len());
     if let Admission::Refused(refusal) = limits {
         return Answer::Refused(refusal);
     }

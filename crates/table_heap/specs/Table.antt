@@ -1,11 +1,20 @@
 -- The heap values of a pattern as a table: document 01, "The five methods", 5.
 use mathlib.Core.Path.{_≡_}
-use mathlib.Core.List.{List}
-use Prim.Native.Nat.{ℕ}
-use lib.ListN.{replicate}
+use mathlib.Core.List.{List, [], _∷_}
+use Prim.Native.Nat.{ℕ, _+_, _%_, _^_}
+use lib.ListN.{getD, replicate}
 use Rattle.jumbled.specs.Heap as Heap
 use Rattle.table_parikh.specs.Table.{tabulate, parikh}
 use Rattle.table_heap.specs.declared.Target.{Target}
+
+-- The sum of some bytes' values, which wraps at 2^64, where a function gives each byte its value
+unfoldable pub wrappedSum : (ℕ → ℕ) → List ℕ → ℕ
+wrappedSum value [] = 0
+wrappedSum value (b ∷ U) = (value b + wrappedSum value U) % 2 ^ 64
+
+-- and where any table does. By the table of a pattern's values it is the pattern's `heapSum` (`table-sum`).
+abbrev pub tableSum : List ℕ → List ℕ → ℕ
+tableSum values U = wrappedSum (λ b. getD values b 0) U
 
 -- The pattern's counts, and a table with nothing in it yet
 pub record Fillable (P counts values : List ℕ) : Type 0 where

@@ -1,11 +1,8 @@
 // Heap values: a number for each byte, by whose sums windows are compared with a pattern (document 01, "The five methods", 5).
 ghost use mathlib.Core.Path.{_≡_};
-ghost use mathlib.Core.List.{List};
 ghost use Prim.Native.Nat.{ℕ, _+_, _*_, _%_, _^_, _<_};
-ghost use Rattle.jumbled.specs.Heap.{heapValue, heapSum};
-ghost use Rattle.table_parikh.specs.Table.{tabulate};
 ghost use Rattle.table_heap.specs.Powers.{IsPower};
-ghost use Rattle.table_heap.specs.Table.{Fillable, HeapTabled};
+ghost use Rattle.table_heap.specs.Table.{tableSum, Fillable, HeapTabled};
 
 // 2^32: a u64 is two digits of this base.
 const HALF: u64 = 4294967296;
@@ -60,7 +57,7 @@ impl Power {
 
 // The sum of the bytes' values, modulo 2^64.
 pub fn sum_of(values: &[u64; 256], bytes: &[u8]) -> u64
-    ensures { λ r. ⌜ ((P : List ℕ) → now (values .entry) ≡ tabulate 256 (heapValue P) → r ≡ heapSum P (now (bytes .entry))) ⌝ }
+    ensures { λ r. ⌜ r ≡ tableSum (now (values .entry)) (now (bytes .entry)) ⌝ }
 {
     let mut sum = 0;
     for i in 0..bytes.len() {

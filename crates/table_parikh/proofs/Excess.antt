@@ -31,13 +31,16 @@ pub spent : (P U : List ℕ) {allowed counts : List ℕ} {b : ℕ} → allowed �
     → leb (getD allowed b 0) (getD counts b 0) ≡ usedUp P U b
 spent P U {b = b} known counted byte = rw (known, counted, getD-parikh P b byte, getD-parikh U b byte) (sym (used-up-test P U b))
 
-pub spent-all : (P U : List ℕ) {allowed counts : List ℕ} {b : ℕ} → allowed ≡ parikh P → counts ≡ parikh U → b < 256
-    → getD allowed b 0 ≤ getD counts b 0 → usedUp P U b ≡ true
-spent-all P U known counted byte h = sym (spent P U known counted byte) ∙ le-leb _ _ h
+-- the same of one counter n
+module _ (P U : List ℕ) {counts : List ℕ} {b n : ℕ} (known : n ≡ cc P b) (counted : counts ≡ parikh U) (byte : b < 256) where
+  by-counter : leb n (getD counts b 0) ≡ usedUp P U b
+  by-counter = rw (known, counted, getD-parikh U b byte) (sym (used-up-test P U b))
 
-pub not-spent : (P U : List ℕ) {allowed counts : List ℕ} {b : ℕ} → allowed ≡ parikh P → counts ≡ parikh U → b < 256
-    → getD counts b 0 < getD allowed b 0 → usedUp P U b ≡ false
-not-spent P U known counted byte h = sym (spent P U known counted byte) ∙ lt-leb _ _ h
+  pub spent-all : n ≤ getD counts b 0 → usedUp P U b ≡ true
+  spent-all h = sym by-counter ∙ le-leb n (getD counts b 0) h
+
+  pub not-spent : getD counts b 0 < n → usedUp P U b ≡ false
+  not-spent h = sym by-counter ∙ lt-leb n (getD counts b 0) h
 
 -- ---- the bytes of a window, from its first one on
 

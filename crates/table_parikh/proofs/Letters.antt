@@ -1,7 +1,7 @@
 -- How a span grows with the bytes of a pattern.
 use mathlib.Core.Path.{_≡_, refl, _∙_}
 use mathlib.Core.List.{List, [], _∷_, _++_}
-use Prim.Native.Nat.{ℕ, _+_, _≤_, _<_}
+use Prim.Native.Nat.{ℕ, suc, _+_, _<_, min, max}
 use native.Mathlib.Numerals.{add-one}
 use native.Mathlib.Omega.{arith}
 use lib.ListN.{length, getD, take}
@@ -9,19 +9,32 @@ use lib.Seq.{take-suc}
 use borrow.Author.Tests.{ne-eqb}
 use Rattle.jumbled.specs.Match.{cc}
 use Rattle.jumbled.proofs.Counts.{cc-nil}
-use Rattle.table_parikh.specs.Letters.{Spanned}
+use Rattle.table_parikh.specs.Letters.{lowest, pastHighest, Spanned}
 use Rattle.table_parikh.specs.declared.Span.{Span}
 use Rattle.table_parikh.proofs.Parikh.{cc-snoc}
 
 pub spanned-none : Spanned [] (record { low = 256; past = 0 })
-spanned-none = record { bytes = omega arith; below = λ c l. cc-nil c; above = λ c l. cc-nil c }
+unfolding lowest pastHighest
+spanned-none = record { low-is = refl; past-is = refl; bytes = omega arith; below = λ c l. cc-nil c; above = λ c l. cc-nil c }
 
--- one byte more, which the wider span holds
-pub spanned-more : {U : List ℕ} {r : Span} → Spanned U r → (b : ℕ) (wider : Span) → wider .low ≤ r .low → wider .low ≤ b → r .past ≤ wider .past
-    → b < wider .past → wider .past ≤ 256 → Spanned (U ++ (b ∷ [])) wider
-spanned-more {U} s b wider lower low higher past most =
+lowest-snoc : (U : List ℕ) (b : ℕ) → b < 256 → lowest (U ++ (b ∷ [])) ≡ min (lowest U) b
+unfolding lowest
+lowest-snoc [] b l = omega arith
+lowest-snoc (a ∷ U) b l = omega (arith, lowest-snoc U b l)
+
+past-snoc : (U : List ℕ) (b : ℕ) → pastHighest (U ++ (b ∷ [])) ≡ max (pastHighest U) (suc b)
+unfolding pastHighest
+past-snoc [] b = omega arith
+past-snoc (a ∷ U) b = omega (arith, past-snoc U b)
+
+-- one byte more, and the span with it
+pub spanned-more : {U : List ℕ} {r : Span} → Spanned U r → (b : ℕ) (wider : Span) → b < 256 → wider .low ≡ min (r .low) b
+    → wider .past ≡ max (r .past) (suc b) → Spanned (U ++ (b ∷ [])) wider
+spanned-more {U} s b wider byte low past =
     record {
-      bytes = most;
+      low-is = omega (arith, low, s .low-is, lowest-snoc U b byte);
+      past-is = omega (arith, past, s .past-is, past-snoc U b);
+      bytes = omega (arith, past, s .bytes);
       below = λ c l. other c (s .below c (omega arith)) (λ e. omega arith);
       above = λ c l. other c (s .above c (omega arith)) (λ e. omega arith);
     }

@@ -1,12 +1,24 @@
 -- Which bytes a pattern can have.
 use mathlib.Core.Path.{_≡_}
-use mathlib.Core.List.{List}
-use Prim.Native.Nat.{ℕ, _≤_, _<_}
+use mathlib.Core.List.{List, [], _∷_}
+use Prim.Native.Nat.{ℕ, suc, _≤_, _<_, min, max}
 use Rattle.jumbled.specs.Match.{cc}
 use Rattle.table_parikh.specs.declared.Span.{Span}
 
--- P has no byte outside the span. Of no bytes the span is empty: `low` is past every byte then.
+-- The smallest byte of P, 256 where P has none
+unfoldable pub lowest : List ℕ → ℕ
+lowest [] = 256
+lowest (b ∷ P) = min b (lowest P)
+
+-- One more than the largest byte of P, 0 where P has none
+unfoldable pub pastHighest : List ℕ → ℕ
+pastHighest [] = 0
+pastHighest (b ∷ P) = max (suc b) (pastHighest P)
+
+-- The span goes from the smallest byte of P to the largest, so P has no byte outside it
 pub record Spanned (P : List ℕ) (r : Span) : Type 0 where
+  pub low-is : r .low ≡ lowest P
+  pub past-is : r .past ≡ pastHighest P
   pub bytes : r .past ≤ 256
   pub below : (c : ℕ) → c < r .low → cc P c ≡ 0
   pub above : (c : ℕ) → r .past ≤ c → cc P c ≡ 0

@@ -1,10 +1,8 @@
 // Parikh vectors: how often each byte occurs in a pattern or a window, as an array of 256 counters; and a window verified by them.
 ghost use mathlib.Core.Path.{_≡_};
-ghost use mathlib.Core.List.{List};
-ghost use Prim.Native.Nat.{ℕ, _≤_};
+ghost use Prim.Native.Nat.{_≤_};
 ghost use lib.ListN.{length};
-ghost use Rattle.jumbled.specs.Match.{matches};
-ghost use Rattle.table_parikh.specs.Table.{parikh};
+ghost use Rattle.table_parikh.specs.Table.{parikh, withinCounts};
 ghost use Rattle.table_parikh.specs.Letters.{Spanned};
 
 // How often each byte occurs in a pattern or a window: document 01, "What a match is", cc(U, c). No counter passes 64, so a byte holds each.
@@ -46,10 +44,10 @@ pub fn span_of(pattern: &[u8]) -> Span
     Span { low, past }
 }
 
-// Whether no byte occurs in the window more often than the pattern allows, by the pattern's counts. The first byte too many ends it.
+// Whether no byte occurs in the window more often than the counts allow. The first byte too many ends it.
 pub fn within(allowed: &[u8; 256], window: &[u8]) -> bool
     requires { ⌜ length (now window) ≤ 64 ⌝ }
-    ensures { λ r. ⌜ ((P : List ℕ) → now (allowed .entry) ≡ parikh P → r ≡ matches P 0 (now (window .entry))) ⌝ }
+    ensures { λ r. ⌜ r ≡ withinCounts (now (allowed .entry)) (now (window .entry)) ⌝ }
 {
     let mut used = [0u8; 256];
     for i in 0..window.len() {

@@ -9,7 +9,7 @@ use lib.Seq.{drop-cons, drop-nil}
 use Rattle.image_form.specs.Image.{lowFirst}
 use Rattle.tests_outcomes.specs.Digests.{digest, digestStep, Digested, listBytes}
 
-digest-append : (h : ℕ) (U W : List ℕ) → digest h (U ++ W) ≡ digest (digest h U) W
+pub digest-append : (h : ℕ) (U W : List ℕ) → digest h (U ++ W) ≡ digest (digest h U) W
 unfolding digest
 digest-append h [] W = refl
 digest-append h (b ∷ U) W = digest-append (digestStep h b) U W

@@ -1,1 +1,2 @@
 pub mod Digesting
+pub mod Noticing

@@ -1,46 +1,65 @@
 -- A loop that fills places from the front, each with what a definition says of it.
-use borrow.Author.Count.{below-more}
 use borrow.Author.Tests.{eq-eqb, ne-eqb}
-use mathlib.Core.Path.{_≡_, sym, _∙_}
-use mathlib.Core.List.{List}
+use mathlib.Core.Path.{_≡_, refl, sym, ap, _∙_}
+use mathlib.Core.List.{List, [], _∷_, _++_}
 use Prim.Native.Nat.{ℕ, zero, suc, _+_, _*_, _%_, _^_, _≤_, _<_}
+use native.Mathlib.Numerals.{add-one}
 use native.Mathlib.Omega.{arith}
-use lib.ListN.{length, getD, set, length-set}
-use lib.Seq.{getD-set-same, getD-set-other, length-take-le}
+use lib.ListN.{length, getD, take, drop, set, length-set}
+use lib.Seq.{length-take-le, take-at, getD-take}
+use Rattle.table_parikh.specs.Table.{tabulate}
+use Rattle.table_parikh.proofs.Tables.{getD-tabulate}
+use Rattle.lent.specs.Placed.{placed}
+use Rattle.lent.specs.Written.{Written}
+use Rattle.lent.proofs.Writing.{written-none, written-more}
 use Rattle.tests_stream.specs.Fillings.{Filled, drawn, madeLength}
 
--- the first i places, of n to be filled, hold what f says, and there are as many places as before
+-- the first i places, of n to be filled, hold what f says, and the others are as before
 pub record Filling (f : ℕ → ℕ) (n : ℕ) (before places : List ℕ) (i : ℕ) : Type 0 where
   pub kept : length places ≡ length before
   pub passed : i ≤ n
-  pub held : (j : ℕ) → j < i → getD places j 0 ≡ f j
+  pub written : Written before 0 (tabulate i f) places i
 
 pub filling-none : (f : ℕ → ℕ) (n : ℕ) (before : List ℕ) → Filling f n before before 0
-filling-none f n before = record { kept = omega arith; passed = omega arith; held = λ j l. absurd (omega arith) }
+unfolding tabulate
+filling-none f n before = record { kept = refl; passed = omega arith; written = written-none before 0 }
 
-pub filling-more : {f : ℕ → ℕ} {n : ℕ} {before places : List ℕ} {i v : ℕ}
-    → Filling f n before places i → n ≤ length before → i < n → v ≡ f i → Filling f n before (set places i v) (i + 1)
-filling-more {f} {n} {before} {places} {i} {v} filling room inside e =
-    record {
-      kept = simp length-set (filling .kept);
-      passed = omega arith;
-      held =
-          below-more (λ j. getD (set places i v) j 0 ≡ f j) i
-          (λ j l. getD-set-other places i j v 0 (λ same. omega arith) ∙ filling .held j l)
-          (getD-set-same places i v 0 (omega arith) ∙ e);
-    }
+one-more : (f : ℕ → ℕ) (i : ℕ) {v : ℕ} → v ≡ f i → tabulate i f ++ (v ∷ []) ≡ tabulate (i + 1) f
+unfolding tabulate
+one-more f i e = rw (add-one, e)
 
-pub filling-all : {f : ℕ → ℕ} {n : ℕ} {before places : List ℕ} {i : ℕ}
-    → Filling f n before places i → n ≤ length before → n ≤ i → Filled f n places
-filling-all {f} {n} {before} {places} filling room all =
-    record {
-      within = (omega arith, sym (length-take-le n places (omega arith)));
-      held = λ j l. filling .held j (omega arith);
-    }
+module _ {f : ℕ → ℕ} {n : ℕ} {before places : List ℕ} {i : ℕ} (filling : Filling f n before places i) (room : n ≤ length before) where
+  pub filling-more : {v : ℕ} → i < n → v ≡ f i → Filling f n before (set places i v) (i + 1)
+  filling-more {v} inside e =
+      record {
+        kept = length-set places i v ∙ filling .kept;
+        passed = omega arith;
+        written = rw (one-more f i e) at (written-more (filling .written) (omega arith) v);
+      }
+
+  pub filling-all : n ≤ i → Filled f n before places
+  filling-all all =
+      let end : i ≡ n = omega arith in
+      let there : n ≤ length places = omega arith in
+      record { within = (there, sym (length-take-le n places there)); written = rw end at (filling .written) }
 
 -- nothing is filled
-pub filled-empty : (f : ℕ → ℕ) (places : List ℕ) → Filled f 0 places
-filled-empty f places = record { within = (omega arith, omega arith); held = λ j l. absurd (omega arith) }
+pub filled-empty : (f : ℕ → ℕ) (places : List ℕ) → Filled f 0 places places
+unfolding tabulate
+filled-empty f places = record { within = (omega arith, omega arith); written = written-none places 0 }
+
+-- the part that is filled
+pub written-part : {before U after : List ℕ} {n : ℕ} → Written before 0 U after n → take n after ≡ U
+unfolding placed
+written-part {before} {U} {n = n} w = rw (w .filled) (take-at U (drop (0 + length U) before) n (omega (arith, w .place)))
+
+pub filled-part : {f : ℕ → ℕ} {n : ℕ} {before after : List ℕ} → Filled f n before after → take n after ≡ tabulate n f
+filled-part filled = written-part (filled .written)
+
+-- a place of it
+pub filled-held : {f : ℕ → ℕ} {n : ℕ} {before after : List ℕ} → Filled f n before after → (i : ℕ) → i < n → getD after i 0 ≡ f i
+filled-held {f} {n} {after = after} filled i inside =
+    sym (getD-take n after i 0 inside) ∙ (ap (λ (l : List ℕ). getD l i 0) (filled-part filled) ∙ getD-tabulate n f i inside)
 
 -- how much is filled
 pub made-none : (letters : List ℕ) (len : ℕ) → length letters ≡ 0 → 0 ≡ madeLength letters len

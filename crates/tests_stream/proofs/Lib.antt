@@ -3,3 +3,4 @@ pub mod Numbers
 pub mod Places
 pub mod Spellings
 pub mod Arguments
+pub mod Onward

@@ -4,10 +4,11 @@ use mathlib.Core.Bool.{false, cond}
 use mathlib.Core.List.{List}
 use Prim.Native.Nat.{ℕ}
 use lib.Dec.{eqb}
+use Rattle.table_parikh.specs.Table.{tabulate}
 use Rattle.tests_stream.specs.declared.Number.{Number}
 use Rattle.tests_stream.specs.declared.Text.{Text}
 use Rattle.tests_stream.specs.Reading.{nowhere, numberWith, numberAt}
-use Rattle.tests_stream.specs.Texts.{Spelling, spelling, HoldsText, textOf, spellingAt, textAt}
+use Rattle.tests_stream.specs.Texts.{Spelling, spelling, textByte, HoldsText, textOf, spellingAt, textAt}
 use Rattle.tests_stream.specs.declared.cases.Case.{Case}
 use Rattle.tests_stream.specs.declared.cases.Shape.{Shape}
 
@@ -24,7 +25,7 @@ shapeOf op =
     (cond (eqb op 4) (shape 0 0 0 1 0 0)
     (cond (eqb op 5) (shape 0 0 0 0 2 512)
     (cond (eqb op 6) (shape 0 512 0 0 0 0)
-    (cond (eqb op 8) (shape 0 16385 0 0 0 0)
+    (cond (eqb op 8) (shape 0 65537 0 0 0 0)
     (cond (eqb op 9) (shape 64 0 1 1 0 0)
     (cond (eqb op 10) (shape 64 0 0 0 0 0)
     (shape 0 0 0 0 0 0)))))))))
@@ -38,9 +39,9 @@ unfoldable pub caseTextAt : List ℕ → ℕ → ℕ → ℕ → Text
 caseTextAt stream at op longest = cond (eqb op 7) (textOf stream (spelling at 149 false 0 149)) (textAt stream at longest)
 
 -- That text was put into the first bytes of a buffer
-pub record CaseTextRead (stream : List ℕ) (at op longest : ℕ) (text : Text) (buffer : List ℕ) : Type 0 where
+pub record CaseTextRead (stream : List ℕ) (at op longest : ℕ) (text : Text) (before after : List ℕ) : Type 0 where
   pub is : text ≡ caseTextAt stream at op longest
-  pub bytes : HoldsText stream (caseTextSpelling stream at op longest) (text .len) buffer
+  pub bytes : HoldsText stream (caseTextSpelling stream at op longest) (text .len) before after
 
 -- The pattern, k and the method of a case of the kind `op` whose arguments start at a place, each where the one before it ends
 abbrev pub patternAt : List ℕ → ℕ → ℕ → Text
@@ -68,11 +69,11 @@ caseAt stream at op =
       next = places .next;
     }
 
--- That case was read, and its pattern and its text were put into the first bytes of buffers
-pub record CaseRead (stream : List ℕ) (at op : ℕ) (case : Case) (patternBuffer textBuffer : List ℕ) : Type 0 where
+-- That case was read, and its pattern and its text were put into the first bytes of buffers, P and T before and P′ and T′ after
+pub record CaseRead (stream : List ℕ) (at op : ℕ) (case : Case) (P P′ T T′ : List ℕ) : Type 0 where
   pub is : case ≡ caseAt stream at op
-  pub pattern : HoldsText stream (spellingAt stream at (shapeOf op .0)) (case .pattern) patternBuffer
-  pub text : HoldsText stream (caseTextSpelling stream (methodAt stream at op .next) op (shapeOf op .1)) (case .text) textBuffer
+  pub pattern : HoldsText stream (spellingAt stream at (shapeOf op .0)) (case .pattern) P P′
+  pub text : HoldsText stream (caseTextSpelling stream (methodAt stream at op .next) op (shapeOf op .1)) (case .text) T T′
 
 -- The kind of the case at a place, and the place after it; 0 is no kind, and nothing follows it
 unfoldable pub kindAt : List ℕ → ℕ → Number
@@ -80,6 +81,22 @@ kindAt stream at =
     let kind = numberAt stream at 1 10 in
     cond (eqb (kind .value) 0) (numberWith 0 nowhere) kind
 
--- The case at a place was read: its kind, and then its arguments
-abbrev pub StoredCase : List ℕ → ℕ → Case → List ℕ → List ℕ → Type 0
-StoredCase stream at case patternBuffer textBuffer = CaseRead stream (kindAt stream at .next) (kindAt stream at .value) case patternBuffer textBuffer
+-- The case at a place: its kind, and then its arguments
+unfoldable pub storedCase : List ℕ → ℕ → Case
+storedCase stream at = caseAt stream (kindAt stream at .next) (kindAt stream at .value)
+
+-- Its pattern and its text
+unfoldable pub storedPattern : List ℕ → ℕ → List ℕ
+storedPattern stream at =
+    let kind = kindAt stream at in
+    tabulate (storedCase stream at .pattern) (textByte stream (spellingAt stream (kind .next) (shapeOf (kind .value) .0)))
+
+unfoldable pub storedText : List ℕ → ℕ → List ℕ
+storedText stream at =
+    let kind = kindAt stream at in
+    let after = methodAt stream (kind .next) (kind .value) .next in
+    tabulate (storedCase stream at .text) (textByte stream (caseTextSpelling stream after (kind .value) (shapeOf (kind .value) .1)))
+
+-- That case was read
+abbrev pub StoredCase : List ℕ → ℕ → Case → (P P′ T T′ : List ℕ) → Type 0
+StoredCase stream at case P P′ T T′ = CaseRead stream (kindAt stream at .next) (kindAt stream at .value) case P P′ T T′

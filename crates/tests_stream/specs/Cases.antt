@@ -1,8 +1,9 @@
 -- What the functions that read a case leave their callers to rely on.
-use mathlib.Core.Path.{_≡_}
+use mathlib.Core.Bool.{cond}
 use mathlib.Core.List.{List}
-use Prim.Native.Nat.{ℕ, _≤_}
-use lib.ListN.{length, take, drop}
+use Prim.Native.Nat.{ℕ, _+_, _≤_}
+use lib.Dec.{ltb}
+use lib.ListN.{length, take, drop, replicate}
 use Rattle.io.specs.Counts.{Counts}
 use Rattle.tests_stream.specs.Reading.{numberAt}
 use Rattle.tests_stream.specs.declared.cases.Fields.{Fields}
@@ -23,14 +24,20 @@ pub record Lendable (m : ℕ) (patternBuffer : List ℕ) (n : ℕ) (textBuffer :
   pub text : Counts n textBuffer
   pub list : places ≤ 65537
 
+-- The n bytes at a place; where they aren't all there, n times 0
+unfoldable pub arrayAt : List ℕ → ℕ → ℕ → List ℕ
+arrayAt bytes at n = cond (ltb (length bytes) (at + n)) (replicate n 0) (take n (drop at bytes))
+
 -- The fields that the bytes of a search write: "64 bytes of pattern, u64 length, u8 k, u8 method, u32 total, 63 bytes of tail, u64 length"
--- (tools/vectors_stream.py). A number that can't be read is 0; an array whose bytes aren't all there is left open, since a case that can be
--- read has all 149.
-pub record FieldsOf (bytes : List ℕ) (f : Fields) : Type 0 where
-  pub pattern : 64 ≤ length bytes → f .pattern ≡ take 64 bytes
-  pub patternLen : f .«pattern_len» ≡ numberAt bytes 64 8 18446744073709551615 .value
-  pub k : f .k ≡ numberAt bytes 72 1 255 .value
-  pub method : f .method ≡ numberAt bytes 73 1 255 .value
-  pub total : f .total ≡ numberAt bytes 74 4 4294967295 .value
-  pub tail : 141 ≤ length bytes → f .tail ≡ take 63 (drop 78 bytes)
-  pub tailLen : f .«tail_len» ≡ numberAt bytes 141 8 18446744073709551615 .value
+-- (tools/vectors_stream.py). A number that can't be read is 0.
+unfoldable pub fieldsOf : List ℕ → Fields
+fieldsOf bytes =
+    record {
+      pattern = arrayAt bytes 0 64;
+      «pattern_len» = numberAt bytes 64 8 18446744073709551615 .value;
+      k = numberAt bytes 72 1 255 .value;
+      method = numberAt bytes 73 1 255 .value;
+      total = numberAt bytes 74 4 4294967295 .value;
+      tail = arrayAt bytes 78 63;
+      «tail_len» = numberAt bytes 141 8 18446744073709551615 .value;
+    }

@@ -1,16 +1,18 @@
 -- What lent places hold before a call, and the texts that a few letters stand for (tools/vectors_stream.py).
-use mathlib.Core.Path.{_≡_}
 use mathlib.Core.Bool.{Bool, cond}
 use mathlib.Core.List.{List}
-use Prim.Native.Nat.{ℕ, zero, suc, _+_, _*_, _/_, _%_, _^_, _<_}
+use Prim.Native.Nat.{ℕ, zero, suc, _+_, _*_, _/_, _%_, _^_}
 use lib.Dec.{eqb}
 use lib.ListN.{length, getD}
 use Rattle.io.specs.Counts.{Counts}
+use Rattle.table_parikh.specs.Table.{tabulate}
+use Rattle.lent.specs.Written.{Written}
 
--- The first n places hold what f says of each. That there are so many is said so that a part of this length can be lent.
-pub record Filled (f : ℕ → ℕ) (n : ℕ) (places : List ℕ) : Type 0 where
-  pub within : Counts n places
-  pub held : (i : ℕ) → i < n → getD places i 0 ≡ f i
+-- The first n places hold what f says of each, and every other is as it was. That there are so many is said so that a part of this length can be
+-- lent.
+pub record Filled (f : ℕ → ℕ) (n : ℕ) (before after : List ℕ) : Type 0 where
+  pub within : Counts n after
+  pub written : Written before 0 (tabulate n f) after n
 
 -- A list's places, and a buffer's bytes
 abbrev pub knownPlace : ℕ → ℕ

@@ -27,9 +27,9 @@ letters stream s = bytesAt stream (s .at) (s .count)
 unfoldable pub textByte : List ℕ → Spelling → ℕ → ℕ
 textByte stream s i = letterAt (letters stream s) (s .picked) (s .seed) i
 
--- The first `len` bytes of a buffer are the text's
-abbrev pub HoldsText : List ℕ → Spelling → ℕ → List ℕ → Type 0
-HoldsText stream s len buffer = Filled (textByte stream s) len buffer
+-- The first `len` bytes of a buffer are the text's, and the others as they were
+abbrev pub HoldsText : List ℕ → Spelling → ℕ → (before after : List ℕ) → Type 0
+HoldsText stream s len before after = Filled (textByte stream s) len before after
 
 -- A text's length, and the place after it
 abbrev pub textWith : ℕ → ℕ → Text
@@ -42,9 +42,9 @@ textOf stream s =
     textWith made (cond (ltb made (s .len)) nowhere (nextAt stream (s .at) (s .count)))
 
 -- The text that is spelled so was put into the first bytes of a buffer
-pub record Spelled (stream : List ℕ) (s : Spelling) (text : Text) (buffer : List ℕ) : Type 0 where
+pub record Spelled (stream : List ℕ) (s : Spelling) (text : Text) (before after : List ℕ) : Type 0 where
   pub is : text ≡ textOf stream s
-  pub bytes : HoldsText stream s (text .len) buffer
+  pub bytes : HoldsText stream s (text .len) before after
 
 -- The three forms of a text, after the byte that says which. The form 0: "u16 length, the bytes"
 unfoldable pub plainSpelling : List ℕ → ℕ → ℕ → Spelling
@@ -71,6 +71,6 @@ unfoldable pub textAt : List ℕ → ℕ → ℕ → Text
 textAt stream at longest = cond (eqb longest 0) (textWith 0 at) (textOf stream (spellingAt stream at longest))
 
 -- That text was put into the first bytes of a buffer
-pub record TextRead (stream : List ℕ) (at longest : ℕ) (text : Text) (buffer : List ℕ) : Type 0 where
+pub record TextRead (stream : List ℕ) (at longest : ℕ) (text : Text) (before after : List ℕ) : Type 0 where
   pub is : text ≡ textAt stream at longest
-  pub bytes : HoldsText stream (spellingAt stream at longest) (text .len) buffer
+  pub bytes : HoldsText stream (spellingAt stream at longest) (text .len) before after

@@ -3,7 +3,7 @@ ghost use mathlib.Core.Path.{_≡_};
 ghost use Prim.Native.Nat.{_≤_};
 ghost use lib.ListN.{length};
 ghost use Rattle.tests_stream.specs.Arguments.{shapeOf, CaseTextRead, CaseRead, StoredCase};
-ghost use Rattle.tests_stream.specs.Cases.{Readable, Lendable, FieldsOf};
+ghost use Rattle.tests_stream.specs.Cases.{Readable, Lendable, fieldsOf};
 use crate::NOWHERE;
 use crate::Text;
 use crate::read_number;
@@ -58,7 +58,7 @@ fn shape_of(op: u8) -> Shape
         5 => Shape(0, 0, 0, 0, 2, 512),
         6 => Shape(0, 512, 0, 0, 0, 0),
         // mixlist's function, the bits of the fields, whether method 5 is exact
-        8 => Shape(0, 16385, 0, 0, 0, 0),
+        8 => Shape(0, 65537, 0, 0, 0, 0),
         9 => Shape(64, 0, 1, 1, 0, 0),
         10 => Shape(64, 0, 0, 0, 0, 0),
         _ => Shape(0, 0, 0, 0, 0, 0),
@@ -68,7 +68,7 @@ fn shape_of(op: u8) -> Shape
 // The text of a case; a search filled in by hand is one of so many bytes.
 fn read_case_text(stream: &[u8], at: usize, op: u8, longest: usize, text: &mut [u8]) -> Text
     requires { ⌜ (longest ≤ length (now text)) × (149 ≤ length (now text)) ⌝ }
-    ensures { λ r. ⌜ CaseTextRead (now (stream .entry)) at op longest r (now (text .exit)) ⌝ }
+    ensures { λ r. ⌜ CaseTextRead (now (stream .entry)) at op longest r (now (text .entry)) (now (text .exit)) ⌝ }
 {
     if op == HAND {
         return spell(stream, at, SEARCH_BYTES, false, 0, SEARCH_BYTES, text);
@@ -80,7 +80,7 @@ fn read_case_text(stream: &[u8], at: usize, op: u8, longest: usize, text: &mut [
 fn read_arguments(stream: &[u8], at: usize, op: u8, pattern: &mut [u8], text: &mut [u8]) -> Case
     requires { ⌜ (300 ≤ length (now pattern)) × (65537 ≤ length (now text)) ⌝ }
     ensures { λ r. ⌜ Lendable (r .pattern) (now (pattern .exit)) (r .text) (now (text .exit)) (r .places) ⌝ }
-    ensures { λ r. ⌜ CaseRead (now (stream .entry)) at op r (now (pattern .exit)) (now (text .exit)) ⌝ }
+    ensures { λ r. ⌜ CaseRead (now (stream .entry)) at op r (now (pattern .entry)) (now (pattern .exit)) (now (text .entry)) (now (text .exit)) ⌝ }
 {
     let shape = shape_of(op);
     let sought = read_text(stream, at, shape.0, pattern);
@@ -103,7 +103,7 @@ fn read_arguments(stream: &[u8], at: usize, op: u8, pattern: &mut [u8], text: &m
 pub fn read_case(stream: &[u8], at: usize, pattern: &mut [u8], text: &mut [u8]) -> Case
     requires { ⌜ (300 ≤ length (now pattern)) × (65537 ≤ length (now text)) ⌝ }
     ensures { λ r. ⌜ Lendable (r .pattern) (now (pattern .exit)) (r .text) (now (text .exit)) (r .places) ⌝ }
-    ensures { λ r. ⌜ StoredCase (now (stream .entry)) at r (now (pattern .exit)) (now (text .exit)) ⌝ }
+    ensures { λ r. ⌜ StoredCase (now (stream .entry)) at r (now (pattern .entry)) (now (pattern .exit)) (now (text .entry)) (now (text .exit)) ⌝ }
 {
     let number = read_number(stream, at, 1, 10);
     let op = number.value as u8;
@@ -115,7 +115,7 @@ pub fn read_case(stream: &[u8], at: usize, pattern: &mut [u8], text: &mut [u8]) 
 
 // The fields that the text of such a case holds.
 pub fn read_fields(bytes: &[u8]) -> Fields
-    ensures { λ r. ⌜ FieldsOf (now (bytes .entry)) r ⌝ }
+    ensures { λ r. ⌜ r ≡ fieldsOf (now (bytes .entry)) ⌝ }
 {
     let mut pattern = [0u8; 64];
     let mut tail = [0u8; 63];

@@ -12,10 +12,10 @@ ghost use Rattle.tests_stream.specs.Texts.{Spelled, spelling, madeSpelli
 
 pub mod cases;
 
-// Each place holds a number that tells which place it is, so that a place that a call should have left alone shows.
+// Each of the first places gets a number that tells which place it is, so that a place that a call should have left alone shows.
 pub fn fill_list(list: &mut [u32], places: usize)
     requires { ⌜ (places ≤ 65537) × (places ≤ length (now list)) ⌝ }
-    ensures { λ _. ⌜ Filled knownPlace places (now (list .exit)) ⌝ }
+    ensures { λ _. ⌜ Filled knownPlace places (now (list .entry)) (now (list .exit)) ⌝ }
 {
     let mut i: usize = 0;
     while i < places {
@@ -27,7 +27,7 @@ pub fn fill_list(list: &mut [u32], places: usize)
 // The same for a buffer.
 pub fn fill_buffer(buffer: &mut [u8], room: usize)
     requires { ⌜ (room ≤ 65537) × (room ≤ length (now buffer)) ⌝ }
-    ensures { λ _. ⌜ Filled knownByte room (now (buffer .exit)) ⌝ }
+    ensures { λ _. ⌜ Filled knownByte room (now (buffer .entry)) (now (buffer .exit)) ⌝ }
 {
     let mut i: usize = 0;
     while i < room {
@@ -48,7 +48,7 @@ fn put_letters(letters: &[u8], picked: bool, seed: u64, len: usize, text: &mut [
     requires { ⌜ len ≤ length (now text) ⌝ }
     ensures { λ r. ⌜ r ≤ len ⌝ }
     ensures { λ r. ⌜ r ≡ madeLength (now (letters .entry)) len ⌝ }
-    ensures { λ r. ⌜ Filled (letterAt (now (letters .entry)) picked seed) r (now (text .exit)) ⌝ }
+    ensures { λ r. ⌜ Filled (letterAt (now (letters .entry)) picked seed) r (now (text .entry)) (now (text .exit)) ⌝ }
 {
     if letters.len() == 0 {
         return 0;
@@ -153,7 +153,7 @@ fn spell(
 ) -> Text
     requires { ⌜ len ≤ length (now text) ⌝ }
     ensures { λ r. ⌜ r .len ≤ len ⌝ }
-    ensures { λ r. ⌜ Spelled (now (stream .entry)) (spelling at count picked seed len) r (now (text .exit)) ⌝ }
+    ensures { λ r. ⌜ Spelled (now (stream .entry)) (spelling at count picked seed len) r (now (text .entry)) (now (text .exit)) ⌝ }
 {
     let letters = take_part(stream, at, count);
     let start = letters.start;
@@ -175,7 +175,7 @@ fn spell(
 fn made_text(stream: &[u8], at: usize, form: usize, longest: usize, text: &mut [u8]) -> Text
     requires { ⌜ (1 ≤ form) × ((form ≤ 2) × (longest ≤ length (now text))) ⌝ }
     ensures { λ r. ⌜ r .len ≤ longest ⌝ }
-    ensures { λ r. ⌜ Spelled (now (stream .entry)) (madeSpelling (now (stream .entry)) at form longest) r (now (text .exit)) ⌝ }
+    ensures { λ r. ⌜ Spelled (now (stream .entry)) (madeSpelling (now (stream .entry)) at form longest) r (now (text .entry)) (now (text .exit)) ⌝ }
 {
     let len = read_number(stream, at, 4, longest as u64);
     let seed = read_number(stream, len.next, (form - 1) * 4, 4294967295);
@@ -195,7 +195,7 @@ fn made_text(stream: &[u8], at: usize, form: usize, longest: usize, text: &mut [
 fn read_text(stream: &[u8], at: usize, longest: usize, text: &mut [u8]) -> Text
     requires { ⌜ longest ≤ length (now text) ⌝ }
     ensures { λ r. ⌜ r .len ≤ longest ⌝ }
-    ensures { λ r. ⌜ TextRead (now (stream .entry)) at longest r (now (text .exit)) ⌝ }
+    ensures { λ r. ⌜ TextRead (now (stream .entry)) at longest r (now (text .entry)) (now (text .exit)) ⌝ }
 {
     if longest == 0 {
         return Text { len: 0, next: at };

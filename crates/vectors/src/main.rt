@@ -3,14 +3,10 @@
 ghost use mathlib.Core.Path.{_≡_};
 ghost use Prim.Native.Nat.{_+_, _^_, _≤_, _<_};
 ghost use lib.ListN.{length};
-
-mod calls;
-mod from_answers;
-mod searches;
-
-use calls::make_call;
+ghost use Rattle.vectors.specs.Runs.{CaseRun, tallied, TallyOf};
 use libc::STDIN_FILENO;
 use search::Search;
+use tests_calls::make_call;
 use tests_outcomes::Outcome;
 use tests_outcomes::agree;
 use tests_outcomes::print_difference;
@@ -55,7 +51,9 @@ fn list_room() -> [u32; LONGEST_CASE_TEXT]
 }
 
 // Runs the case at a place. One that can't be read is run with what could be read of it, and leads to a place past the stream's end.
-fn run_case(stream: &[u8], at: usize, search: Search) -> Step {
+fn run_case(stream: &[u8], at: usize, search: Search) -> Step
+    ensures { λ r. ⌜ CaseRun (now (stream .entry)) at search r ⌝ }
+{
     let mut pattern = [0u8; 300];
     let mut text = text_room();
     let mut list = list_room();
@@ -82,6 +80,7 @@ fn run_case(stream: &[u8], at: usize, search: Search) -> Step {
 fn compare(tally: Tally, op: u8, got: Outcome, expected: Outcome) -> Tally
     requires { ⌜ (tally .differ ≤ tally .cases) × (tally .cases < 2 ^ 63) ⌝ }
     ensures { λ r. ⌜ (r .differ ≤ r .cases) × (r .cases ≤ tally .cases + 1) ⌝ }
+    ensures { λ r. ⌜ r ≡ tallied tally op got expected ⌝ }
 {
     if op == HAND {
         return tally;
@@ -103,6 +102,7 @@ fn compare(tally: Tally, op: u8, got: Outcome, expected: Outcome) -> Tally
 // Runs the cases one after the other. Each takes a byte at least, so there are no more cases than bytes.
 fn run(stream: &[u8]) -> Tally
     ensures { λ r. ⌜ r .differ ≤ r .cases ⌝ }
+    ensures { λ r. ⌜ TallyOf (now (stream .entry)) r ⌝ }
 {
     let mut tally = Tally {
         cases: 0,

@@ -1,13 +1,16 @@
 -- `chunk_search::search_chunk` meets its contract: the tail and the chunk are made ready, and the method's function searches them.
-use mathlib.Core.Path.{_≡_, sym}
+use mathlib.Core.Path.{_≡_, sym, ap}
+use mathlib.Core.List.{_++_}
 use native.Mathlib.Omega.{arith}
-use Prim.Native.Nat.{_≤_}
-use lib.ListN.{length}
+use Prim.Native.Nat.{_-_, _≤_}
+use lib.ListN.{length, take}
 use lib.Seq.{length-take-le}
 use borrow.Author.Needs.{needs}
 use Rattle.jumbled.specs.Steps.{steps}
 use Rattle.jumbled.proofs.Positions.{no-windows}
+use Rattle.chunk_seam.specs.declared.Seam as S
 use Rattle.chunk_seam.proofs.Prepared.{parted-starts}
+use Rattle.chunk_seam.proofs.Seams.{reach-fits, seam-holds}
 use Rattle.chunk_search.proofs.Prepared.{found-none, prepared, found-joined}
 use Rattle.chunk_search.proofs.search_chunk.Statement.{statement}
 use Rattle.chunk_search.proofs.search_chunk.Tie as tie
@@ -31,10 +34,26 @@ seam-of-requires c κs =
     (joinable .tail-short, joinable .short)
 
 -- the seam's bytes are there
+abbrev joined-of : tie.After-seam-of → tie.Start
+joined-of s = s .before .before .before .before .before .before .before .before
+
+seam-fits : (s : tie.After-seam-of)
+    → let args = joined-of s .args in
+    length (args .tail .now ++ take (length (args .pattern .now) - 1) (args .chunk .now)) ≤ 128
+seam-fits s =
+    let start = joined-of s in
+    reach-fits (start .args .tail .now) (start .args .chunk .now) (start .pre .joinable .tail-short) (start .pre .joinable .short)
+
 seam-long : (s : tie.After-seam-of) → s .seam-of .result .len ≤ length (s .seam-of .result .bytes)
 seam-long s =
     let long : length (s .seam-of .result .bytes) ≡ 128 = search needs in
-    omega (arith, s .seam-of .ensures .1)
+    omega (arith, ap (λ (seam : S.Seam). seam .len) (s .seam-of .ensures), seam-fits s)
+
+-- and are the tail and what its windows reach of the chunk
+seam-reaches : (s : tie.After-seam-of)
+    → let args = joined-of s .args in
+    take (s .seam-of .result .len) (s .seam-of .result .bytes) ≡ args .tail .now ++ take (length (args .pattern .now) - 1) (args .chunk .now)
+seam-reaches s = seam-holds (s .seam-of .ensures) (seam-fits s)
 
 array-share-prefix-bytes : tie.Need-array-share-prefix-bytes
 array-share-prefix-bytes c = seam-long (c .before)
@@ -53,7 +72,7 @@ search-split-requires c κs =
     let some = seam .before .if1 .left in
     record {
       prepared =
-          prepared (args .tail .now) (args .chunk .now) (s .split-starts .ensures) (seam .seam-of .ensures .0) (start .pre .joinable) (omega (arith, some));
+          prepared (args .tail .now) (args .chunk .now) (s .split-starts .ensures) (seam-reaches seam) (start .pre .joinable) (omega (arith, some));
       taken = start .pre .taken;
     }
 
@@ -65,7 +84,7 @@ returns-2 c =
     let seam : tie.After-seam-of = c .before .before .before .before .before .before in
     let s : tie.After-split-starts = seam .before .before .before in
     let args = s .before .before .before .before .before .args in
-    found-joined (args .tail .now) (args .chunk .now) (s .split-starts .ensures) (seam .seam-of .ensures .0) (steps (args .pattern .now) (args .k) (args .method)) (c .before .before .search-split .ensures)
+    found-joined (args .tail .now) (args .chunk .now) (s .split-starts .ensures) (seam-reaches seam) (steps (args .pattern .now) (args .k) (args .method)) (c .before .before .search-split .ensures)
 
 pub search-chunk-spec : {M : Type 1} → statement M
 search-chunk-spec =

@@ -1,7 +1,10 @@
 -- `loop_forward::hcam_start` meets its contract: the bytes summed are the first m - 1.
-use mathlib.Core.Path.{sym}
+use mathlib.Core.Path.{sym, _∙_}
 use Prim.Native.Nat.{_-_}
+use lib.ListN.{take}
 use lib.Seq.{length-take-le}
+use Rattle.jumbled.proofs.Counts.{bytes-take}
+use Rattle.table_heap.proofs.Sums.{table-sum}
 use borrow.Author.Needs.{needs}
 use Rattle.loop_forward.proofs.hcam_start.Statement.{statement}
 use Rattle.loop_forward.proofs.hcam_start.Tie as tie
@@ -22,7 +25,13 @@ returns c =
     let start = c .before .before .before in
     λ given.
     record {
-      state = record { sums = c .sum-of .ensures (given .of) (given .tabled) };
+      state =
+          record {
+            sums =
+                c .sum-of .ensures
+                ∙ table-sum (given .of) (given .tabled) (take (start .args .m - 1) (start .args .text .now))
+                (bytes-take (start .args .m - 1) (start .args .text .now) (record { below = λ i. c .before .before .shared-slice-known .given i .fits }));
+          };
       inspected = length-take-le (start .args .m - 1) (start .args .text .now) (given .enough);
     }
 

@@ -12,6 +12,7 @@ use borrow.Author.Tests.{eqb-true, eqb-false, not-true, not-false}
 use Rattle.jumbled.specs.Match.{matches, window}
 use Rattle.jumbled.specs.Heap.{heapSum}
 use Rattle.jumbled.specs.Steps.{hcamJudged}
+use Rattle.table_parikh.proofs.Allowed.{within-matches}
 use Rattle.table_heap.specs.declared.Target.{Target}
 use Rattle.table_heap.specs.Table.{HeapTabled}
 use Rattle.lent.specs.declared.Range.{Range}
@@ -144,7 +145,7 @@ found c given =
     let here = sums-for (c .before .before .before .before) given in
     let added = c .before .before .wrapping-add-u64 .ensures in
     ⊎-elim
-    (λ w. found-verified here added (w .0 .taken) (w .2 .taken) (w .6 ∙ w .4 .ensures (given .of) (given .pattern-counts)) (w .5))
+    (λ w. found-verified here added (w .0 .taken) (w .2 .taken) (w .6 ∙ w .4 .ensures ∙ within-matches (given .of) _ (given .pattern-counts)) (w .5))
     (λ w.
     ⊎-elim (λ v. found-exact here added (v .0 .taken) (v .2 .left) (w .2) (w .1)) (λ v. found-none here added (v .left) (w .2) (w .1)) (w .0 .came))
     (c .if2 .came)

@@ -3,9 +3,9 @@ use borrow.Author.Needs.{needs}
 use native.Mathlib.Omega.{arith}
 use lib.Dec.{lit<}
 use lib.ListN.{length-take, length-drop}
-use Rattle.program_request.specs.Parsing.{Ordered, Parses}
+use Rattle.program_request.specs.Parsing.{Parses}
 use Rattle.program_request.specs.declared.Parsed.the-variants.{Request}
-use Rattle.program_request.proofs.Answered.{Requested, parsed-long, parsed-bad, parsed-request, not-long}
+use Rattle.program_request.proofs.Answered.{Requested, Ordered, parsed-long, parsed-bad, parsed-request, parsed-ordered, not-long}
 use Rattle.program_report.proofs.Answers.{output-early, request-output}
 use Rattle.program_report.proofs.Room.{refusal-room}
 use Rattle.program_report.proofs.report.Statement.{statement}
@@ -38,7 +38,7 @@ parsed c = rw (c .method .given .1) at (c .before .before .parse .ensures)
 ordered : (c : tie.After-method)
     → Ordered (c .before .before .before .before .args .input .now) (c .method .given .0 .1 .1 .0) (c .method .given .0 .1 .1 .1 .0)
     (c .method .given .0 .1 .1 .1 .1 .0)
-ordered c = parsed c .places
+ordered c = parsed-ordered _ (parsed c)
 
 requested : (c : tie.After-method)
     → Requested (c .before .before .before .before .args .input .now) (c .method .given .0 .0) (c .method .given .0 .1 .0)

@@ -8,9 +8,11 @@ use mathlib.Core.List.{List}
 use Prim.Native.Nat.{ℕ, _+_, _-_, _≤_, _<_}
 use lib.ListN.{length, take, drop}
 use lib.Seq.{length-take-le}
-use Rattle.program_request.specs.Line.{decimalValue, methodForm, toleranceForm, methodField, toleranceField, patternField}
+use Rattle.program_request.specs.Line.{decimalValue, methodForm, toleranceForm, methodField, toleranceField}
+use Rattle.program_request.specs.Reading.{patternPlace}
 use Rattle.program_request.proofs.Fields.{method-tolerance}
-use Rattle.program_request.proofs.Splits.{bad-no-space, bad-one-space, bad-method, bad-tolerance, good-all, space-within, no-space, one-space, method-is, tolerance-within, one-space-only, two-spaces, tolerance-is, pattern-is}
+use Rattle.program_request.proofs.Splits.{bad-no-space, bad-one-space, bad-method, bad-tolerance, good-all, space-within, no-space, one-space, method-is, tolerance-within, one-space-only, two-spaces, tolerance-is, pattern-at}
+use Rattle.program_request.proofs.Lines.{says-bad, says-fields}
 use Rattle.program_request.proofs.first_line.Statement.{statement}
 use Rattle.program_request.proofs.first_line.Tie as tie
 
@@ -33,7 +35,7 @@ find-requires c κs = search needs
 returns : tie.Need-returns
 returns c =
     let line = c .before .before .before .args .line .now in
-    bad-no-space line (no-space line (c .before .find .result) (c .before .find .ensures) (c .if1 .taken))
+    says-bad line (bad-no-space line (no-space line (c .before .find .result) (c .before .find .ensures) (c .if1 .taken)))
 
 add-k-at : tie.Need-add-k-at
 add-k-at c = omega (arith, inside c)
@@ -58,9 +60,10 @@ returns-2 c =
     let found = c .before in
     let first = found .before .before in
     let line = first .before .before .before .args .line .now in
-    bad-one-space line
+    says-bad line
+    (bad-one-space line
     (one-space-only line (first .before .find .result) (found .find2 .result) (first .before .find .ensures) (inside first)
-    (found .find2 .ensures) (c .if2 .taken))
+    (found .find2 .ensures) (c .if2 .taken)))
 
 slice-aggregate-method : tie.Need-slice-aggregate-method
 slice-aggregate-method c =
@@ -102,9 +105,9 @@ module _ (c : tie.After-is-method-form) where
       tolerance-is (line c) (first c .before .find .result) (found c .find2 .result) (first c .before .find .ensures)
       (inside (first c)) (found c .find2 .ensures)
 
-  pattern-part : drop (first c .before .find .result + 1 + found c .find2 .result + 1) (line c) ≡ patternField (line c)
+  pattern-part : first c .before .find .result + 1 + found c .find2 .result + 1 ≡ patternPlace (line c)
   pattern-part =
-      pattern-is (line c) (first c .before .find .result) (found c .find2 .result) (first c .before .find .ensures)
+      pattern-at (line c) (first c .before .find .result) (found c .find2 .result) (first c .before .find .ensures)
       (inside (first c)) (found c .find2 .ensures)
 
 tolerance-form : (c : tie.After-is-tolerance-form)
@@ -113,14 +116,14 @@ tolerance-form c = c .is-tolerance-form .ensures ∙ ap toleranceForm (tolerance
 
 returns-3 : tie.Need-returns-3
 returns-3 c =
-    bad-method (line (c .before)) (sym (method-form (c .before)) ∙ not-true _ (c .if3 .taken))
+    says-bad _ (bad-method (line (c .before)) (sym (method-form (c .before)) ∙ not-true _ (c .if3 .taken)))
 
 is-tolerance-form-requires : tie.Need-is-tolerance-form-requires
 is-tolerance-form-requires c κs = search needs
 
 returns-4 : tie.Need-returns-4
 returns-4 c =
-    bad-tolerance (line (c .before .before .before)) (sym (tolerance-form (c .before)) ∙ not-true _ (c .if4 .taken))
+    says-bad _ (bad-tolerance (line (c .before .before .before)) (sym (tolerance-form (c .before)) ∙ not-true _ (c .if4 .taken)))
 
 -- past the tests both fields have their forms
 method-good : (c : tie.Else4) → methodForm (methodField (line (c .before .before .before))) ≡ true
@@ -149,7 +152,8 @@ returns-5 c =
     let good = c .before .before in
     let tested = good .before .before .before in
     let other = tested .before .before .before .if2 .left in
-    record {
+    says-fields (line tested)
+    (record {
       good =
           good-all (line tested)
           (one-space (line tested) (first tested .before .find .result) (first tested .before .find .ensures) (inside (first tested)))
@@ -160,9 +164,8 @@ returns-5 c =
           c .before .parse-number .ensures
           ∙ ap (decimalValue 0) (method-is (line tested) (first tested .before .find .result) (first tested .before .find .ensures));
       k-is = c .parse-number2 .ensures ∙ ap (decimalValue 0) (tolerance-part tested);
-      pattern-is = pattern-part tested;
-      within = omega (arith, within (found tested), other);
-    }
+      from-is = pattern-part tested;
+    })
 
 pub first-line-spec : {M : Type 1} → statement M
 first-line-spec =

@@ -6,6 +6,7 @@ use Prim.Native.Nat.{_<_}
 use lib.ListN.{length}
 use lib.Seq.{length-take-le}
 use Rattle.program_request.proofs.Requests.{too-long, bad-line, no-newline, bad-fields, newline-within, newline-none, line-is, request}
+use Rattle.program_request.proofs.Lines.{bad-said, fields-said}
 use Rattle.program_request.proofs.parse.Statement.{statement}
 use Rattle.program_request.proofs.parse.Tie as tie
 
@@ -54,7 +55,8 @@ returns-3 c =
     let found = read .before .before .before in
     let input = found .before .before .before .args .input .now in
     bad-line input (omega arith)
-    (bad-fields input (rw (line-is input (found .find .result) (found .find .ensures)) at (rw (c .enum-told .given .1) at (read .first-line .ensures))))
+    (bad-fields input
+    (rw (line-is input (found .find .result) (found .find .ensures)) at (bad-said _ (rw (c .enum-told .given .1) at (read .first-line .ensures)))))
 
 returns-4 : tie.Need-returns-4
 returns-4 c =
@@ -62,7 +64,7 @@ returns-4 c =
     let tested = read .before .before in
     let input = tested .before .before .before .before .args .input .now in
     request input (tested .before .find .result) (tested .before .find .ensures) _ _ _ _ (omega arith) (inside tested)
-    (rw (c .before .before .method .given .1) at (read .first-line .ensures)) (c .text-end .ensures)
+    (fields-said _ (rw (c .before .before .method .given .1) at (read .first-line .ensures))) (c .text-end .ensures)
 
 pub parse-spec : {M : Type 1} → statement M
 parse-spec =

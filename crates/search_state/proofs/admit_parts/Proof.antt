@@ -9,8 +9,8 @@ use Rattle.jumbled.specs.Refusals.{given, tailLength, tailTests, patternTests, 
 use Rattle.jumbled.proofs.Admission.{given-append, given-later, pattern-numbered, admitted}
 use Rattle.answers.specs.Numbers.{admissionNumber}
 use Rattle.answers.specs.declared.Refusal.the-variants.{Malformed}
-use Rattle.answers.proofs.Refused.{still-refused}
-use Rattle.admit_pattern.proofs.Refusing.{admits-refused}
+use Rattle.answers.proofs.Refused.{still-refused, on-accepted}
+use Rattle.admit_pattern.proofs.Refusing.{admits-refused, admits-counted, refused-uncounted}
 use borrow.Author.Needs.{needs}
 use Rattle.search_state.proofs.admit_parts.Statement.{statement}
 use Rattle.search_state.proofs.admit_parts.Tie as tie
@@ -45,7 +45,7 @@ returns c =
     let args = c .before .before .before .before .args in
     let tests = patternTests (args .pattern .now) (args .k) (args .method) in
     let e = c .enum-told .given .1 in
-    admits-refused _ e
+    admits-refused _ e (refused-uncounted (c .before .before .admit .ensures) _ e)
     (ap admissionNumber (sym e)
     ∙ still-refused _ _ _ _ e (c .before .before .admit .ensures .number)
     ∙ sym (given-append tests (tailTests (length (args .pattern .now)) (args .total) (args .tail)) (pattern-numbered (args .pattern .now) (args .k) (args .method))))
@@ -64,7 +64,7 @@ refused-pattern-requires c κs = search needs
 returns-2 : tie.Need-returns-2
 returns-2 c =
     let args = start-of (c .before .before .before) .args in
-    admits-refused Malformed (c .refused-pattern .ensures)
+    admits-refused Malformed (c .refused-pattern .ensures .0) (c .refused-pattern .ensures .1)
     (by-tail (c .before .before .before) true
     (rw (ne-eqb (args .tail) (tailLength (length (args .pattern .now)) (args .total)) (λ e. c .before .if1 .taken (e ∙ sym (c .before .before .tail-length .ensures)))) refl))
 
@@ -76,7 +76,7 @@ returns-3 c =
     (rw (eq-eqb (args .tail) (tailLength (length (args .pattern .now)) (args .total)) (c .if1 .left ∙ c .before .tail-length .ensures)) refl) in
     record {
       number = told .before .before .admit .ensures .number ∙ accepted told ∙ right;
-      counts = λ none. told .before .before .admit .ensures .counts (accepted told);
+      counts = admits-counted (told .before .before .admit .ensures) (accepted told) ∙ on-accepted _ _ _ (sym right);
     }
 
 pub admit-parts-spec : {M : Type 1} → statement M

@@ -5,6 +5,8 @@ use lib.ListN.{length}
 use Rattle.jumbled.specs.Refusals.{given, patternTests, chunkTests}
 use Rattle.jumbled.proofs.Admission.{admitted, method-given, chunk-taken}
 use Rattle.answers.specs.Numbers.{admissionNumber}
+use Rattle.admit_pattern.proofs.Refusing.{admits-counted}
+use Rattle.admit_chunk.proofs.Documented.{document-limits}
 use Rattle.search_whole.proofs.Wholes.{whole-refused-early, whole-late, whole-refused, whole-listed}
 use borrow.Author.Needs.{needs}
 use Rattle.search_whole.proofs.whole.Statement.{statement}
@@ -19,7 +21,9 @@ accepted s = sym (s .before .before .admit .ensures .number) ∙ ap admissionNum
 
 fits : (s : tie.After-enum-told2)
     → given (chunkTests 0 (length (start-of (s .before .before .before) .args .text .now)) (length (start-of (s .before .before .before) .args .list .now))) ≡ 0
-fits s = sym (s .before .before .limits .ensures) ∙ ap admissionNumber (s .enum-told2 .given .1)
+fits s =
+    let args = start-of (s .before .before .before) .args in
+    sym (s .before .before .limits .ensures ∙ document-limits 0 (length (args .text .now)) (length (args .list .now))) ∙ ap admissionNumber (s .enum-told2 .given .1)
 
 admit-requires : tie.Need-admit-requires
 admit-requires c κs = search needs
@@ -48,6 +52,7 @@ returns-2 c =
     let args = start-of told .args in
     whole-refused (args .pattern .now) (args .k) (args .method) (args .text .now) (args .list .now) _
     (ap admissionNumber (sym (c .before .limits2 .given .1)) ∙ c .before .before .before .limits .ensures
+    ∙ document-limits 0 (length (args .text .now)) (length (args .list .now))
     ∙ sym (whole-late (args .pattern .now) (args .k) (args .method) (args .text .now) (args .list .now) (accepted told)))
 
 enum-told-2 : tie.Need-enum-told-2
@@ -65,10 +70,10 @@ search-chunk-requires c κs =
     let limits = chunk-taken 0 (length (args .text .now)) (length (args .list .now)) (fits told2) in
     record {
       joinable =
-          record { short = right .short; tail-short = right .some; numbered = omega (arith, limits .size .not-long); room = limits .size .room };
+          record { short = right .short; tail-short = right .some; numbered = omega (arith, limits .size .not-long); room = omega (arith, limits .size .room) };
       taken =
           record {
-            counted = told .before .before .admit .ensures .counts (accepted told);
+            counted = admits-counted (told .before .before .admit .ensures) (accepted told);
             within = right .within;
             method-right = method-given (args .pattern .now) (args .k) (args .method) (accepted told);
           };

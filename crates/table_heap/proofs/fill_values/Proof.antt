@@ -15,6 +15,7 @@ use Rattle.table_parikh.proofs.Filled.{filled, filled-below, filled-above, fill
 use Rattle.table_heap.specs.declared.Power.{Power}
 use Rattle.table_heap.specs.Powers.{IsPower}
 use Rattle.table_heap.proofs.Powers.{power-zero}
+use Rattle.table_heap.proofs.Sums.{table-sum}
 use Rattle.table_heap.proofs.fill_values.Statement.{statement}
 use Rattle.table_heap.proofs.fill_values.Tie as tie
 
@@ -122,7 +123,9 @@ returns c =
     let filled = loop .inv .entries ∙ filled-above 256 (heapValue P) 0 (loop .byte) (λ i l. heapValue-none P i (none i l)) in
     record {
       entries = filled;
-      own-sum = c .sum-of .ensures P filled;
+      own-sum =
+          c .sum-of .ensures
+          ∙ table-sum P filled P (record { below = λ i. c .before .before .before .before .before .shared-slice-known .given i .fits });
       exact =
           loop .inv .running .exact
           ∙ ap (λ (n : ℕ). leb ((length P + 1) ^ n) (2 ^ 64))

@@ -1,26 +1,24 @@
 -- `table_heap::sum_of` meets its contract. The loop's invariant: the sum is that of the bytes passed.
 use mathlib.Core.Path.{_≡_, sym, ap, _∙_}
-use mathlib.Core.List.{List}
-use Prim.Native.Nat.{ℕ, _≤_, _<_, _-_}
+use Prim.Native.Nat.{ℕ, _+_, _%_, _^_, _≤_, _<_, _-_}
 use native.Mathlib.Omega.{arith}
 use lib.ListN.{length, getD, take}
 use lib.Seq.{take-all}
-use Rattle.jumbled.specs.Heap.{heapValue, heapSum}
-use Rattle.table_parikh.specs.Table.{tabulate}
 use Rattle.table_parikh.proofs.Letters.{take-more}
-use Rattle.table_heap.proofs.Sums.{heapSum-nil, sum-more}
+use Rattle.table_heap.specs.Table.{wrappedSum, tableSum}
+use Rattle.table_heap.proofs.Sums.{sum-nil, sum-snoc}
 use Rattle.table_heap.proofs.sum_of.Statement.{statement}
 use Rattle.table_heap.proofs.sum_of.Tie as tie
 
 abbrev Inv-loop : tie.InvT-loop
 Inv-loop values bytes sum₀ i₀ i-end sum i =
-    (i ≤ length bytes) × ((P : List ℕ) → values ≡ tabulate 256 (heapValue P) → sum ≡ heapSum P (take i bytes))
+    (i ≤ length bytes) × (sum ≡ tableSum values (take i bytes))
 
 abbrev μ-loop : tie.MeasureT-loop
 μ-loop values bytes sum₀ i₀ i-end sum i = i-end - i
 
 loop-holds : tie.Need-loop-holds Inv-loop μ-loop
-loop-holds c = (omega arith, λ P e. sym (heapSum-nil P))
+loop-holds c = (omega arith, sym (sum-nil _))
 
 shared-slice-read-byte : tie.Need-shared-slice-read-byte Inv-loop μ-loop
 shared-slice-read-byte c = omega arith
@@ -49,18 +47,18 @@ loop-less c = omega arith
 loop-again : tie.Need-loop-again Inv-loop μ-loop
 loop-again c =
     let loop = c .before .before .before .before .loop in
-    let bytes = c .before .before .before .before .before .before .args .bytes .now in (
+    let args = c .before .before .before .before .before .before .args in
+    let bytes = args .bytes .now in
+    let value : ℕ → ℕ = λ b. getD (args .values .now) b 0 in (
       omega arith,
-      λ P e.
-          sum-more P e (take (loop .i) bytes) (byte (c .before .before)) (loop .inv .1 P e) (c .wrapping-add-u64 .ensures)
-          ∙ ap (heapSum P) (take-more bytes (loop .i) (omega arith)),
+      c .wrapping-add-u64 .ensures ∙ ap (λ (n : ℕ). (n + value (getD bytes (loop .i) 0)) % 2 ^ 64) (loop .inv .1)
+          ∙ sym (sum-snoc value (take (loop .i) bytes) (getD bytes (loop .i) 0)) ∙ ap (wrappedSum value) (take-more bytes (loop .i) (omega arith)),
     )
 
 returns : tie.Need-returns Inv-loop μ-loop
 returns c =
-    λ P e.
-    let bytes = c .before .before .before .args .bytes .now in
-    c .before .loop .inv .1 P e ∙ ap (heapSum P) (take-all (c .before .loop .i) bytes (omega arith))
+    let args = c .before .before .before .args in
+    c .before .loop .inv .1 ∙ ap (tableSum (args .values .now)) (take-all (c .before .loop .i) (args .bytes .now) (omega arith))
 
 pub sum-of-spec : {M : Type 1} → statement M
 sum-of-spec =

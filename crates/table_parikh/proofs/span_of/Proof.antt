@@ -1,5 +1,5 @@
 -- `table_parikh::span_of` meets its contract. The loop's invariant: the span holds the bytes passed.
-use Prim.Native.Nat.{_≤_, _<_, _-_}
+use Prim.Native.Nat.{suc, _≤_, _-_, min, max}
 use mathlib.Core.Path.{_≡_}
 use mathlib.Core.Logic.{⊎-elim}
 use native.Mathlib.Omega.{arith}
@@ -34,17 +34,14 @@ add-i c = omega arith
 loop-less : tie.Need-loop-less Inv-loop μ-loop
 loop-less c = omega arith
 
--- the span is no narrower, and holds the byte
-lower : (c : tie.Joined2 Inv-loop μ-loop) → let at = c .before .before .before .before in let byte = getD (at .before .args .pattern .now) (at .loop .i) 0 in
-    (c .before .if1 .low ≤ at .loop .low) × (c .before .if1 .low ≤ byte)
+-- the span reaches to the byte
+lower : (c : tie.Joined2 Inv-loop μ-loop) → let at = c .before .before .before .before in
+    c .before .if1 .low ≡ min (at .loop .low) (getD (at .before .args .pattern .now) (at .loop .i) 0)
 lower c = ⊎-elim (λ w. omega arith) (λ w. omega arith) (c .before .if1 .came)
 
-higher : (c : tie.Joined2 Inv-loop μ-loop) → let at = c .before .before .before .before in let byte = getD (at .before .args .pattern .now) (at .loop .i) 0 in
-    (at .loop .past ≤ c .if2 .past) × (byte < c .if2 .past) × (c .if2 .past ≤ 256)
-higher c =
-    let byte = c .before .before .shared-slice-known .given (c .before .before .before .before .loop .i) in
-    let most = c .before .before .before .before .loop .inv .1 .bytes in
-    ⊎-elim (λ w. omega arith) (λ w. omega arith) (c .if2 .came)
+higher : (c : tie.Joined2 Inv-loop μ-loop) → let at = c .before .before .before .before in
+    c .if2 .past ≡ max (at .loop .past) (suc (getD (at .before .args .pattern .now) (at .loop .i) 0))
+higher c = ⊎-elim (λ w. omega arith) (λ w. omega arith) (c .if2 .came)
 
 loop-again : tie.Need-loop-again Inv-loop μ-loop
 loop-again c =
@@ -52,8 +49,8 @@ loop-again c =
     let pattern = at .before .args .pattern .now in (
       omega arith,
       rw (take-more pattern (at .loop .i) (omega arith)) at
-          (spanned-more (at .loop .inv .1) (getD pattern (at .loop .i) 0) (record { low = c .before .if1 .low; past = c .if2 .past }) (lower c .0) (lower c .1)
-          (higher c .0) (higher c .1) (higher c .2)),
+          (spanned-more (at .loop .inv .1) (getD pattern (at .loop .i) 0) (record { low = c .before .if1 .low; past = c .if2 .past })
+          (c .before .before .shared-slice-known .given (at .loop .i) .fits) (lower c) (higher c)),
     )
 
 returns : tie.Need-returns Inv-loop μ-loop

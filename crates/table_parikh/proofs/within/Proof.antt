@@ -1,5 +1,5 @@
 -- `table_parikh::within` meets its contract. The loop's invariant: the bytes passed are counted, and none of them is too many.
-use mathlib.Core.Path.{_≡_, sym}
+use mathlib.Core.Path.{_≡_, sym, _∙_}
 use mathlib.Core.List.{List}
 use Prim.Native.Nat.{ℕ, _≤_, _<_, _-_}
 use native.Mathlib.Omega.{arith}
@@ -9,6 +9,7 @@ use Rattle.jumbled.proofs.Counts.{excess-nil}
 use Rattle.table_parikh.specs.Table.{parikh}
 use Rattle.table_parikh.proofs.Parikh.{parikh-nil, parikh-take-suc, parikh-take-le}
 use Rattle.table_parikh.proofs.Excess.{spent-all, not-spent, exceeds-not, exceeds, exceeds-nowhere}
+use Rattle.table_parikh.proofs.Allowed.{some-bytes, some-counts, within-counted}
 use Rattle.table_parikh.proofs.within.Statement.{statement}
 use Rattle.table_parikh.proofs.within.Tie as tie
 
@@ -16,7 +17,7 @@ use Rattle.table_parikh.proofs.within.Tie as tie
 record Passed (allowed window used : List ℕ) (i : ℕ) : Type 0 where
   inside : i ≤ length window
   counted : used ≡ parikh (take i window)
-  none-over : (P : List ℕ) → allowed ≡ parikh P → excess P (take i window) ≡ 0
+  none-over : excess (some-bytes allowed) (take i window) ≡ 0
 
 abbrev Inv-loop : tie.InvT-loop
 Inv-loop allowed window used₀ i₀ i-end used i = Passed allowed window used i
@@ -25,7 +26,7 @@ abbrev μ-loop : tie.MeasureT-loop
 μ-loop allowed window used₀ i₀ i-end used i = i-end - i
 
 loop-holds : tie.Need-loop-holds Inv-loop μ-loop
-loop-holds c = record { inside = omega arith; counted = parikh-nil; none-over = λ P e. excess-nil P }
+loop-holds c = record { inside = omega arith; counted = parikh-nil; none-over = excess-nil _ }
 
 shared-slice-read-byte : tie.Need-shared-slice-read-byte Inv-loop μ-loop
 shared-slice-read-byte c = omega arith
@@ -46,10 +47,14 @@ element-copy-out-if1 c = byte c
 returns : tie.Need-returns Inv-loop μ-loop
 returns c =
     let at = c .before .before .before .before in
+    let allowed = at .before .args .allowed .now in
     let window = at .before .args .window .now in
-    λ P known.
-    sym (exceeds P window (at .loop .i) (omega arith) (byte (c .before .before)) (at .loop .inv .none-over P known)
-    (spent-all P (take (at .loop .i) window) known (at .loop .inv .counted) (byte (c .before .before)) (omega (arith, c .if1 .taken))))
+    let P = some-bytes allowed in
+    let b = byte (c .before .before) in
+    sym
+    (within-counted P window allowed (some-counts allowed)
+    ∙ exceeds P window (at .loop .i) (omega arith) b (at .loop .inv .none-over)
+    (spent-all P (take (at .loop .i) window) (some-counts allowed _ b) (at .loop .inv .counted) b (omega (arith, c .if1 .taken))))
 
 array-read-used : tie.Need-array-read-used Inv-loop μ-loop
 array-read-used c = byte (c .before .before)
@@ -71,19 +76,25 @@ loop-less c = omega arith
 loop-again : tie.Need-loop-again Inv-loop μ-loop
 loop-again c =
     let at = c .before .before .before .before in
+    let allowed = at .before .args .allowed .now in
     let window = at .before .args .window .now in
+    let P = some-bytes allowed in
+    let b = byte (c .before .before) in
     record {
       inside = omega arith;
       counted = rw (at .loop .inv .counted) (parikh-take-suc window (at .loop .i) (omega arith) (array-read-used c));
       none-over =
-          λ P known.
-          exceeds-not P window (at .loop .i) (omega arith) (byte (c .before .before)) (at .loop .inv .none-over P known)
-          (not-spent P (take (at .loop .i) window) known (at .loop .inv .counted) (byte (c .before .before)) (omega (arith, c .if1 .left)));
+          exceeds-not P window (at .loop .i) (omega arith) b (at .loop .inv .none-over)
+          (not-spent P (take (at .loop .i) window) (some-counts allowed _ b) (at .loop .inv .counted) b (omega (arith, c .if1 .left)));
     }
 
 returns-2 : tie.Need-returns-2 Inv-loop μ-loop
 returns-2 c =
-    λ P known. sym (exceeds-nowhere P (c .before .before .args .window .now) (c .before .loop .i) (omega arith) (c .before .loop .inv .none-over P known))
+    let allowed = c .before .before .args .allowed .now in
+    let window = c .before .before .args .window .now in
+    sym
+    (within-counted (some-bytes allowed) window allowed (some-counts allowed)
+    ∙ exceeds-nowhere (some-bytes allowed) window (c .before .loop .i) (omega arith) (c .before .loop .inv .none-over))
 
 pub within-spec : {M : Type 1} → statement M
 within-spec =

@@ -27,7 +27,7 @@ returns : tie.Need-returns
 returns c =
     let put = c .before .before .before in
     let part = put .before .before .before in
-    (search needs, spelled-short _ _ _ (part .take-part .ensures .1) (put .put-letters .ensures .1 .0) (put .put-letters .ensures .1 .1) (omega arith))
+    (search needs, spelled-short _ _ (part .take-part .ensures .1) (put .put-letters .ensures .1 .0) (put .put-letters .ensures .1 .1) (omega arith))
 
 same-length-2 : tie.Need-same-length-2
 same-length-2 c = search needs
@@ -36,7 +36,7 @@ returns-2 : tie.Need-returns-2
 returns-2 c =
     let put = c .before .before .before in
     let part = put .before .before .before in
-    (search needs, spelled-whole _ _ _ (part .take-part .ensures .1) (put .put-letters .ensures .1 .0) (put .put-letters .ensures .1 .1) (omega arith))
+    (search needs, spelled-whole _ _ (part .take-part .ensures .1) (put .put-letters .ensures .1 .0) (put .put-letters .ensures .1 .1) (omega arith))
 
 pub spell-spec : {M : Type 1} → statement M
 spell-spec =

@@ -16,7 +16,7 @@ refused-pattern-requires : tie.Need-refused-pattern-requires
 refused-pattern-requires c κs = search needs
 
 returns : tie.Need-returns
-returns c = admits-refused PatternLength (c .refused-pattern .ensures) (handed-long (c .before .before .args .self) (c .before .if1 .taken))
+returns c = admits-refused PatternLength (c .refused-pattern .ensures .0) (c .refused-pattern .ensures .1) (handed-long (c .before .before .args .self) (c .before .if1 .taken))
 
 array-share-prefix-pattern : tie.Need-array-share-prefix-pattern
 array-share-prefix-pattern c = omega (arith, pattern-long (c .before .before))

@@ -9,6 +9,8 @@ use Rattle.jumbled.specs.Refusals.{given, tailLength, chunkTests}
 use Rattle.jumbled.proofs.Admission.{admitted, chunk-taken}
 use Rattle.jumbled.proofs.Counts.{bytes-take, bytes-append}
 use Rattle.answers.specs.Numbers.{admissionNumber}
+use Rattle.admit_pattern.proofs.Refusing.{admits-counted}
+use Rattle.admit_chunk.proofs.Documented.{document-limits}
 use Rattle.search.specs.Searches.{patternOf, tailOf}
 use Rattle.search.specs.Calls.{handedNumber}
 use Rattle.search.proofs.Handed.{StoredBytes, sound, pattern-length}
@@ -40,7 +42,9 @@ start-at s = start-of (s .before .before .before)
 
 fits : (s : tie.After-enum-told2)
     → given (chunkTests (start-at s .args .self .total) (length (start-at s .args .chunk .now)) (length (start-at s .args .list .now))) ≡ 0
-fits s = sym (s .before .before .limits .ensures) ∙ ap admissionNumber (s .enum-told2 .given .1)
+fits s =
+    let args = start-at s .args in
+    sym (s .before .before .limits .ensures ∙ document-limits (args .self .total) (length (args .chunk .now)) (length (args .list .now))) ∙ ap admissionNumber (s .enum-told2 .given .1)
 
 checked-requires : tie.Need-checked-requires
 checked-requires c κs = search needs
@@ -68,7 +72,8 @@ returns-2 c =
     let told : tie.After-enum-told = c .before .before .before .before in
     let args = start-of told .args in
     fed-refused-late (args .self) (args .chunk .now) (args .list .now) (right told) _
-    (ap admissionNumber (sym (c .before .limits2 .given .1)) ∙ c .before .before .before .limits .ensures)
+    (ap admissionNumber (sym (c .before .limits2 .given .1)) ∙ c .before .before .before .limits .ensures
+    ∙ document-limits (args .self .total) (length (args .chunk .now)) (length (args .list .now)))
 
 enum-told-2 : tie.Need-enum-told-2
 enum-told-2 c = search needs
@@ -77,7 +82,7 @@ searched-requires : tie.Need-searched-requires
 searched-requires c κs =
     let told : tie.After-enum-told2 = c .before .before .before in
     let handed = right (told .before .before .before) in
-    record { handed = handed; counted = told .before .before .before .before .before .checked .ensures .counts handed; chunk-right = fits told }
+    record { handed = handed; counted = admits-counted (told .before .before .before .before .before .checked .ensures) handed; chunk-right = fits told }
 
 advanced-requires : tie.Need-advanced-requires
 advanced-requires c κs =

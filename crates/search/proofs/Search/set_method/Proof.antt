@@ -4,6 +4,7 @@ use native.Mathlib.Omega.{arith}
 use lib.ListN.{length}
 use Rattle.jumbled.proofs.Admission.{admitted}
 use Rattle.answers.specs.Numbers.{admissionNumber}
+use Rattle.admit_pattern.proofs.Refusing.{admits-counted}
 use Rattle.search.specs.Searches.{patternOf}
 use Rattle.search.specs.Calls.{handedNumber}
 use Rattle.search.proofs.Handed.{sound, pattern-length, method-refused-early, method-refused-late, method-set}
@@ -52,7 +53,7 @@ admit-method-requires c κs =
     let told : tie.After-enum-told2 = c .before .before .before .before in
     let held = start-of told .args .self in
     let admits = admitted (patternOf held) (held .k) (held .method) (sound held (right told) .admits) in
-    (admits .short, told .before .before .checked .ensures .counts (right told), omega (arith, admits .within, admits .short))
+    (admits .short, admits-counted (told .before .before .checked .ensures) (right told), omega (arith, admits .within, admits .short))
 
 enum-told-3 : tie.Need-enum-told-3
 enum-told-3 c = search needs

@@ -1,8 +1,7 @@
 -- `tests_stream::cases::read_fields` meets its contract.
 use borrow.Author.Needs.{needs}
-use mathlib.Core.Path.{_≡_, ap}
-use Rattle.tests_stream.specs.declared.Number.{Number}
-use Rattle.tests_stream.proofs.Spellings.{plain-bytes}
+use Rattle.tests_stream.specs.Cases.{fieldsOf}
+use Rattle.tests_stream.proofs.Spellings.{array-spelled}
 use Rattle.tests_stream.proofs.cases.read_fields.Statement.{statement}
 use Rattle.tests_stream.proofs.cases.read_fields.Tie as tie
 
@@ -42,10 +41,8 @@ cast-t17 c = search needs
 cast-t18 : tie.Need-cast-t18
 cast-t18 c = search needs
 
-value : {m n : Number} → m ≡ n → m .value ≡ n .value
-value e = ap (λ (n : Number). n .value) e
-
 returns : tie.Need-returns
+unfolding fieldsOf
 returns c =
     let fifth : tie.After-read-number5 = c .before .before .before in
     let fourth = fifth .before in
@@ -54,15 +51,15 @@ returns c =
     let first = second .before in
     let tail : tie.After-spell2 = first .before .before in
     let pattern : tie.After-spell = tail .before .before .before in
-    record {
-      pattern = λ there. plain-bytes _ 0 64 there (pattern .spell .kept .1 .1 .1 .1 .1 .1 .0) (pattern .spell .ensures .1);
-      patternLen = value (first .read-number .ensures .1);
-      k = value (second .read-number2 .ensures .1);
-      method = value (third .read-number3 .ensures .1);
-      total = value (fourth .read-number4 .ensures .1);
-      tail = λ there. plain-bytes _ 78 63 there (tail .spell2 .kept .1 .1 .1 .1 .1 .1 .0) (tail .spell2 .ensures .1);
-      tailLen = value (fifth .read-number5 .ensures .1);
-    }
+    rw (
+      ← array-spelled _ 0 64 (pattern .spell .ensures .1) (pattern .spell .kept .1 .1 .1 .1 .1 .1 .0),
+      ← array-spelled _ 78 63 (tail .spell2 .ensures .1) (tail .spell2 .kept .1 .1 .1 .1 .1 .1 .0),
+      first .read-number .ensures .1,
+      second .read-number2 .ensures .1,
+      third .read-number3 .ensures .1,
+      fourth .read-number4 .ensures .1,
+      fifth .read-number5 .ensures .1,
+    )
 
 pub read-fields-spec : {M : Type 1} → statement M
 read-fields-spec =

@@ -1,0 +1,68 @@
+-- `tests_calls::call_without` meets its contract: an arm a kind.
+use borrow.Author.Needs.{needs}
+use Rattle.tests_calls.proofs.call_without.Reads as reads
+use Rattle.tests_calls.proofs.call_without.Lts as lts
+use borrow.Author.Tests.{ne-eqb}
+use mathlib.Core.Path.{refl}
+use Rattle.tests_calls.specs.Calls.{OutcomeMade}
+use Rattle.tests_calls.proofs.call_without.Statement.{statement}
+use Rattle.tests_calls.proofs.call_without.Tie as tie
+
+call-whole-requires : tie.Need-call-whole-requires
+call-whole-requires c κs = search needs
+
+call-report-requires : tie.Need-call-report-requires
+call-report-requires c κs = search needs
+
+width-of-requires : tie.Need-width-of-requires
+width-of-requires c κs = search needs
+
+number-outcome-requires : tie.Need-number-outcome-requires
+number-outcome-requires c κs = search needs
+
+exact-requires : tie.Need-exact-requires
+exact-requires c κs = search needs
+
+number-outcome-requires-2 : tie.Need-number-outcome-requires-2
+number-outcome-requires-2 c κs = search needs
+
+same-length : tie.Need-same-length
+same-length c = search needs
+
+returns : tie.Need-returns
+unfolding OutcomeMade
+returns c =
+    let made : tie.After-call-whole = c .before .before in
+    rw (made .before .before .match .keys1) (made .call-whole .ensures)
+
+returns-2 : tie.Need-returns-2
+unfolding OutcomeMade
+returns-2 c = rw (c .before .match .keys2) (refl, c .call-report .ensures)
+
+returns-3 : tie.Need-returns-3
+unfolding OutcomeMade
+returns-3 c = rw (c .before .before .match .keys3) (refl, rw (c .number-outcome .ensures, c .before .width-of .ensures))
+
+returns-4 : tie.Need-returns-4
+unfolding OutcomeMade
+returns-4 c =
+    let arm : tie.At-match-rest = c .before .before in
+    let op = arm .before .before .before .before .args .op in
+    rw (ne-eqb op 1 (arm .match .rest .0 .0 .1), ne-eqb op 8 (arm .match .rest .0 .1), ne-eqb op 9 (arm .match .rest .1))
+    (refl, rw (c .number-outcome2 .ensures, c .before .exact .ensures))
+
+pub call-without-spec : {M : Type 1} → statement M
+call-without-spec =
+    tie.close
+    (tie.spec
+    call-whole-requires
+    call-report-requires
+    width-of-requires
+    number-outcome-requires
+    exact-requires
+    number-outcome-requires-2
+    same-length
+    returns
+    returns-2
+    returns-3
+    returns-4)

@@ -1,0 +1,115 @@
+-- Which call each kind of case asks for, and what the call comes to (tools/vectors_stream.py, "Operations"). What a call gives is said by its own
+-- record: `Whole` of search_whole, and `Opened`, `Feeds`, `SetsMethod`, `Saves` and `Loads` of search.
+use mathlib.Core.Path.{_≡_}
+use mathlib.Core.Bool.{cond}
+use mathlib.Core.List.{List, [], _++_}
+use Prim.Native.Nat.{ℕ, min}
+use lib.Dec.{eqb, ltb}
+use lib.ListN.{length}
+use Rattle.jumbled.specs.Match.{bit}
+use Rattle.jumbled.specs.Fields.{layoutOf, bits}
+use Rattle.jumbled.specs.Heap.{exact}
+use Rattle.answers.specs.Numbers.{admissionNumber}
+use Rattle.answers.specs.Answers.{answerNumber, answerFound, answerInspections, savingNumber, savingLength}
+use Rattle.answers.specs.declared.Answer.{Answer}
+use Rattle.table_parikh.specs.Table.{tabulate}
+use Rattle.search_whole.specs.Whole.{Whole}
+use Rattle.search.specs.declared.Search.{Search}
+use Rattle.search.specs.declared.SearchResult.{SearchResult}
+use Rattle.search.specs.declared.FeedResult.{FeedResult}
+use Rattle.search.specs.declared.SaveResult.{SaveResult}
+use Rattle.search.specs.Calls.{Opened, Feeds, SetsMethod, Saves, Loads}
+use Rattle.program_report.specs.Output.{output}
+use Rattle.tests_stream.specs.Fillings.{knownByte}
+use Rattle.tests_stream.specs.Cases.{fieldsOf}
+use Rattle.tests_stream.specs.declared.cases.Case.{Case}
+use Rattle.tests_outcomes.specs.Digests.{digest, listBytes}
+use Rattle.tests_outcomes.specs.Outcomes.{outcomeOf}
+use Rattle.tests_outcomes.specs.declared.Outcome.{Outcome}
+use Rattle.tests_calls.specs.declared.Called.{Called}
+use Rattle.tests_calls.specs.Searches.{searchBytes, searchOf}
+
+-- A call was made of which Says tells what it gave, and `given` is what `put` makes of that
+pub record Came {A B : Type 0} (Says : A → Type 0) (put : A → B) (given : B) : Type 0 where
+  pub result : A
+  pub says : Says result
+  pub is : given ≡ put result
+
+-- ---- what a call came to, put as an outcome
+
+abbrev pub calledWith : Search → Outcome → Called
+calledWith s got = record { search = s; got = got }
+
+-- a number that a call without refusals gives
+abbrev pub numberOutcome : ℕ → Outcome
+numberOutcome a = outcomeOf 0 a 0 0
+
+-- a search of a text or a chunk: the number, found and inspections, and a digest
+abbrev pub answerOutcome : ℕ → Answer → Outcome
+answerOutcome digested answer = outcomeOf (answerNumber answer) (answerFound answer) (answerInspections answer) digested
+
+-- the digest of the bytes that a call left in a list or a buffer, and then of the search
+abbrev pub digestWith : List ℕ → Search → ℕ
+digestWith U s = digest 0 (U ++ searchBytes s)
+
+-- open, set method and load
+abbrev pub admissionCalled : SearchResult → Called
+admissionCalled r = calledWith (r .search) (outcomeOf (admissionNumber (r .admission)) 0 0 (digestWith [] (r .search)))
+
+-- feed, which left a list of these bytes
+abbrev pub feedCalled : List ℕ → FeedResult → Called
+feedCalled U r = calledWith (r .search) (answerOutcome (digestWith U (r .search)) (r .answer))
+
+-- save, which left this buffer
+abbrev pub saveCalled : List ℕ → SaveResult → Called
+saveCalled U r = calledWith (r .search) (outcomeOf (savingNumber (r .saving)) (savingLength (r .saving)) 0 (digestWith U (r .search)))
+
+-- ---- the calls
+
+-- A save into a buffer that held `before`
+pub record SaveMade (s : Search) (before : List ℕ) (called : Called) : Type 0 where
+  pub after : List ℕ
+  pub came : Came (Saves s before after) (saveCalled after) called
+
+-- The buffer that a case with so many places lends to save: 512 bytes at most
+unfoldable pub knownBuffer : ℕ → List ℕ
+knownBuffer places = tabulate (min places 512) knownByte
+
+-- mixlist's output: its length, and the digest of it
+unfoldable pub reportOutcome : List ℕ → Outcome
+reportOutcome input = outcomeOf 0 (length (output input)) 0 (digest 0 (output input))
+
+-- The bits that the fields of methods 2, 3 and 4 need. A pattern over 64 bytes and a k over 64, which no search has, count as none.
+unfoldable pub widthNumber : List ℕ → ℕ → ℕ → ℕ
+widthNumber P k method = cond (ltb 64 (length P)) 0 (cond (ltb 64 k) 0 (bits P (layoutOf k method)))
+
+-- 1 where a candidate of method 5 matches without being verified, else 0
+unfoldable pub exactNumber : List ℕ → ℕ
+exactNumber P = cond (ltb 64 (length P)) 0 (bit (exact P))
+
+-- The calls that no search is handed to, by the kind of the case: whole search (1), mixlist (8), the bits (9) and exact (10). Only a whole search
+-- changes the list.
+unfoldable pub OutcomeMade : (op : ℕ) (P : List ℕ) (k method : ℕ) (T before after : List ℕ) → Outcome → Type 0
+OutcomeMade op P k method T before after got =
+    cond (eqb op 1) (Came (Whole P k method T before after) (answerOutcome (digest 0 (listBytes after))) got)
+    ((after ≡ before)
+    × (got
+    ≡ cond (eqb op 8) (reportOutcome T)
+    (cond (eqb op 9) (numberOutcome (widthNumber P k method)) (numberOutcome (exactNumber P)))))
+
+-- Such a call leaves the search as it was
+pub record Beside (Made : Outcome → Type 0) (s : Search) (called : Called) : Type 0 where
+  pub kept : called .search ≡ s
+  pub made : Made (called .got)
+
+-- The call of a case, with the pattern P, the text T and a list that held `before`: open (2), feed (3), set method (4), save (5), load (6), a search
+-- filled in by hand (7), or one of those above. A feed alone of these changes the list.
+unfoldable pub CallMade : Case → Search → (P T before after : List ℕ) → Called → Type 0
+CallMade case s P T before after called =
+    cond (eqb (case .op) 2) ((after ≡ before) × Came (Opened P (case .k) (case .method)) admissionCalled called)
+    (cond (eqb (case .op) 3) (Came (Feeds s T before after) (feedCalled (listBytes after)) called)
+    (cond (eqb (case .op) 4) ((after ≡ before) × Came (SetsMethod s (case .method)) admissionCalled called)
+    (cond (eqb (case .op) 5) ((after ≡ before) × SaveMade s (knownBuffer (case .places)) called)
+    (cond (eqb (case .op) 6) ((after ≡ before) × Came (Loads T) admissionCalled called)
+    (cond (eqb (case .op) 7) ((after ≡ before) × (called ≡ calledWith (searchOf (fieldsOf T)) (numberOutcome 0)))
+    (Beside (OutcomeMade (case .op) P (case .k) (case .method) T before after) s called))))))
