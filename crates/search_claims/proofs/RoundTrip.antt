@@ -17,7 +17,7 @@ use Rattle.search.specs.Calls.{Saves, saveNumber, Loads, loadNumber}
 use Rattle.search.proofs.Handed.{SoundSearch, sound}
 use Rattle.search_series.specs.Series.{writtenImage}
 use Rattle.search_series.proofs.Tests.{handed-saved, parts-stored, load-parts, load-taken}
-use Rattle.search_series.proofs.Ledgers.{save-written}
+use Rattle.search_series.proofs.Contracts.{save-written}
 
 -- What the types of a search's fields say: the places of its arrays, and 32 bits
 pub record FieldSizes (s : Search) : Type 0 where

@@ -1,11 +1,11 @@
 -- What the contracts of the calls say where a call is accepted and where it is refused: document 01, "A search and its calls" and the last
 -- lines of "When a call says no" (demand 1: a refusal changes nothing).
-use mathlib.Core.Path.{_≡_, sym, _∙_}
+use mathlib.Core.Path.{_≡_, sym, ap₂, _∙_}
 use mathlib.Core.Bool.{false}
 use mathlib.Core.List.{List, []}
 use Prim.Native.Nat.{ℕ, _-_}
 use lib.Dec.{eqb}
-use lib.ListN.{length}
+use lib.ListN.{length, take}
 use borrow.Author.Tests.{ne-eqb}
 use Rattle.jumbled.specs.Match.{positions}
 use Rattle.jumbled.specs.Steps.{steps}
@@ -22,6 +22,8 @@ use Rattle.search.specs.declared.FeedResult.{FeedResult}
 use Rattle.search.specs.declared.SaveResult.{SaveResult}
 use Rattle.search.specs.Searches.{patternOf, stored, blankSearch}
 use Rattle.search.specs.Calls.{Opened, Feeds, searchedText, fedParts, SetsMethod, searchWithMethod, Saves, imageOf, Loads}
+use Rattle.search_series.specs.Series.{writtenImage}
+use Rattle.search_series.proofs.Tests.{take-placed-first}
 
 -- A call was refused: its number is not 0
 abbrev pub IsRefused : ℕ → Type 0
@@ -128,6 +130,12 @@ module _ {s : Search} {before after : List ℕ} {r : SaveResult} (contract : Sav
         buffer = rw (is-zero (contract .number) ok) at (contract .buffer);
         len = rw (is-zero (contract .number) ok) at (contract .len);
       }
+
+  -- what was written is the image of the search
+  pub save-written : savingNumber (r .saving) ≡ 0 → writtenImage after r ≡ imageOf s
+  save-written ok =
+      let accepted : SaveAccepted s before after r = save-accepted ok in
+      ap₂ (λ (n : ℕ) (l : List ℕ). take n l) (accepted .len) (accepted .buffer) ∙ take-placed-first before (imageOf s)
 
   pub save-refused : IsRefused (savingNumber (r .saving)) → NothingSaved before after r
   save-refused refusal =

@@ -3,7 +3,7 @@ use mathlib.Core.Path.{_≡_, sym, ap, ap₂, _∙_, subst}
 use mathlib.Core.List.{List, [], _++_}
 use Prim.Native.Nat.{ℕ, _+_, _-_, _≤_, _<_, _^_}
 use native.Mathlib.Omega.{arith}
-use lib.ListN.{length, take, length-append, length-drop}
+use lib.ListN.{length, length-append, length-drop}
 use lib.Seq.{drop-nil}
 use Rattle.jumbled.specs.Match.{matches, window, starts, select, positions}
 use Rattle.jumbled.specs.Steps.{steps}
@@ -25,9 +25,9 @@ use Rattle.search.specs.Searches.{patternOf, stored, blankSearch}
 use Rattle.search.specs.Calls.{handedNumber, partsTests, Opened, openNumber, Feeds, feedNumber, searchedText, fedParts, SetsMethod, setMethodNumber, Saves, saveNumber, imageOf, Loads, loadNumber}
 use Rattle.search_series.specs.History.{Ledger, startWith, withChunk, ledgerWithMethod, ledgerReport}
 use Rattle.search_series.specs.Series.{writtenImage, ledgerTail, ledgerParts, ledgerSearch, Reports, Agrees}
-use Rattle.search_series.proofs.Contracts.{whole-accepted, FeedAccepted, feed-accepted, set-accepted, SaveAccepted, save-accepted, open-accepted, load-accepted}
+use Rattle.search_series.proofs.Contracts.{whole-accepted, FeedAccepted, feed-accepted, set-accepted, save-written, open-accepted, load-accepted}
 use Rattle.search_series.proofs.Reports.{positions-append, report-by-tail, tail-after}
-use Rattle.search_series.proofs.Tests.{pattern-stored, tail-stored, parts-stored, handed-stored, feed-total, set-admitted, feed-blank, set-blank, save-blank, take-placed-first, load-parts, load-taken}
+use Rattle.search_series.proofs.Tests.{pattern-stored, tail-stored, parts-stored, handed-stored, feed-total, set-admitted, feed-blank, set-blank, save-blank, load-parts, load-taken}
 
 -- ---- what the search holds
 
@@ -195,15 +195,9 @@ module _ {s : Search} {newMethod : ℕ} {r : SearchResult} (contract : SetsMetho
 -- ---- save
 
 module _ {s : Search} {before after : List ℕ} {r : SaveResult} (contract : Saves s before after r) where
-  -- what was written is the image of the search
-  pub save-written : savingNumber (r .saving) ≡ 0 → writtenImage after r ≡ imageOf s
-  save-written e =
-      let accepted : SaveAccepted s before after r = save-accepted contract e in
-      ap₂ (λ (n : ℕ) (l : List ℕ). take n l) (accepted .len) (accepted .buffer) ∙ take-placed-first before (imageOf s)
-
-  -- and so of the ledger
+  -- what was written is the image of the ledger
   pub save-image : {L : Ledger} → Represents L s → savingNumber (r .saving) ≡ 0 → writtenImage after r ≡ image saveOrder (ledgerParts L)
-  save-image {L} now e = save-written e ∙ ap imageOf (now .held) ∙ ap (image saveOrder) (parts-stored (ledgerParts L))
+  save-image {L} now e = save-written contract e ∙ ap imageOf (now .held) ∙ ap (image saveOrder) (parts-stored (ledgerParts L))
 
   pub save-while-blank : s ≡ blankSearch → savingNumber (r .saving) ≡ 1
   save-while-blank e = contract .number ∙ ap (λ (held : Search). saveNumber held before) e ∙ save-blank before
