@@ -8,7 +8,7 @@ use native.Mathlib.Omega.{arith}
 use lib.Dec.{eqb}
 use lib.ListN.{length, take, drop}
 use lib.Seq.{drop-append-seam, take-take}
-use Rattle.jumbled.specs.Match.{matches}
+use Rattle.jumbled.specs.Match.{matches, windowPrefix}
 use Rattle.jumbled.specs.Heap.{heapSum, exact}
 use Rattle.jumbled.specs.Steps.{countJudged, hcamJudged}
 use Rattle.jumbled.specs.Scan.{Result, Judged, unverified, forward}
@@ -16,7 +16,6 @@ use Rattle.jumbled.proofs.Cuts.{_then_, moved, forward-count, forward-most}
 use Rattle.lent.specs.Found.{Found}
 use Rattle.lent.specs.Loops.{Fitting, Listed}
 use Rattle.lent.proofs.Listing.{then-nothing}
-use Rattle.loop_forward.specs.Windows.{windowPrefix}
 use Rattle.chunk_seam.specs.declared.Split.{Split}
 use Rattle.chunk_seam.specs.Joined.{Prepared, joined}
 use Rattle.chunk_seam.proofs.Joins.{from-zero}

@@ -11,7 +11,7 @@ use borrow.Author.Tests.{leb-true, leb-false, ltb-true, ltb-false, le-ltb, eqb-t
 use Rattle.jumbled.specs.Fields.{layoutOf, bits}
 use Rattle.jumbled.specs.Refusals.{Test, test, given, isMethod, exactOnly, lengthTests, toleranceTests, knownTests, exactTests, widthTests, textTests, inputTests, placeTests, totalTests, tailLength, tailTests, lineTests, methodTests, patternTests, sizeTests, searchTests, chunkTests, requestTests, programTests}
 
-or-false : (a b : Bool) → (a || b) ≡ false → (a ≡ false) × (b ≡ false)
+pub or-false : (a b : Bool) → (a || b) ≡ false → (a ≡ false) × (b ≡ false)
 or-false true b e = absurd (true≢false e)
 or-false false b e = (refl, e)
 
@@ -47,7 +47,7 @@ given-append-none ts us none e = (refl, e)
 given-append-none ts us (next {n = n} {b = true} row more) e = absurd (positive n row e)
 given-append-none ts us (next {b = false} {ts = rest} row more) e = given-append-none rest us more e
 
-given-none-append : (ts us : List Test) → Numbered ts → given ts ≡ 0 → given us ≡ 0 → given (ts ++ us) ≡ 0
+pub given-none-append : (ts us : List Test) → Numbered ts → given ts ≡ 0 → given us ≡ 0 → given (ts ++ us) ≡ 0
 given-none-append ts us numbered first later = given-append ts us numbered ∙ rw (eq-eqb (given ts) 0 first) later
 
 -- where nothing of the first is given, the number is the second's;
@@ -85,7 +85,7 @@ given-small ts (next {n = n} {b = true} row more) = ltb-true n 100 (and-true (lt
 given-small ts (next {b = false} {ts = rest} row more) = given-small rest more
 
 -- of one test: its condition does not hold
-given-one : {n : ℕ} {b : Bool} → Numbered (test n b ∷ []) → given (test n b ∷ []) ≡ 0 → b ≡ false
+pub given-one : {n : ℕ} {b : Bool} → Numbered (test n b ∷ []) → given (test n b ∷ []) ≡ 0 → b ≡ false
 unfolding given
 given-one (next {n = n} {b = true} row more) e = absurd (positive n row e)
 given-one (next {b = false} row more) e = refl
@@ -110,11 +110,11 @@ length-taken m e =
     some : (m ≡ 0 → ⊥) → 0 < m
     some h = omega arith
 
-tolerance-numbered : (m k : ℕ) → Numbered (toleranceTests m k)
+pub tolerance-numbered : (m k : ℕ) → Numbered (toleranceTests m k)
 unfolding toleranceTests
 tolerance-numbered m k = next refl none
 
-tolerance-taken : (m k : ℕ) → given (toleranceTests m k) ≡ 0 → k < m
+pub tolerance-taken : (m k : ℕ) → given (toleranceTests m k) ≡ 0 → k < m
 unfolding toleranceTests
 tolerance-taken m k e = leb-false m k (given-one (tolerance-numbered m k) e)
 

@@ -1,10 +1,10 @@
 -- Laws of `Bytes`, `cc` and `excess`.
 use mathlib.Core.Path.{_≡_, refl, sym, ap, ap₂, _∙_}
 use mathlib.Core.Bool.{Bool, true, false, cond}
-use mathlib.Core.List.{List, [], _∷_, _++_}
+use mathlib.Core.List.{List, [], _∷_, _++_, append-nil}
 use mathlib.Core.Logic.{_⊎_, inl, inr}
 use Prim.Native.Nat.{ℕ, zero, suc, _+_, _-_, _≤_, _<_}
-use native.Mathlib.Nat.{add-assoc, zero-add, zero-sub}
+use native.Mathlib.Nat.{add-assoc, add-comm, zero-add, zero-sub}
 use native.Mathlib.Omega.{arith}
 use lib.Dec.{eqb, leb}
 use lib.ListN.{length, getD, take, drop, take-append-drop}
@@ -18,7 +18,7 @@ use Rattle.jumbled.proofs.Sums.{below-or-not, sum-zeros, sum-ext, sum-m
 pub bytes-nil : Bytes []
 bytes-nil = record { below = λ i. omega arith }
 
-bytes-cons : {b : ℕ} {U : List ℕ} → b < 256 → Bytes U → Bytes (b ∷ U)
+pub bytes-cons : {b : ℕ} {U : List ℕ} → b < 256 → Bytes U → Bytes (b ∷ U)
 bytes-cons {b} {U} h hs = record { below = at }
   where
     at : (i : ℕ) → getD (b ∷ U) i 0 < 256
@@ -142,12 +142,25 @@ excess-cons P b R h =
     at : (c : ℕ) → cc (b ∷ R) c - cc P c ≡ (cc R c - cc P c) + cond (eqb b c) (bit (leb (cc P b) (cc R b))) 0
     at c = rw (cc-cons b R c) (case c (eqb b c) refl)
 
+-- a byte at the other end: the order does not matter to counts, nor to the excess
+pub cc-turned : (b : ℕ) (U : List ℕ) (c : ℕ) → cc (U ++ (b ∷ [])) c ≡ cc (b ∷ U) c
+cc-turned b U c = cc-append U (b ∷ []) c ∙ add-comm (cc U c) (cc (b ∷ []) c) ∙ sym (cc-append (b ∷ []) U c)
+
+pub excess-snoc : (P U : List ℕ) (b : ℕ) → b < 256 → excess P (U ++ (b ∷ [])) ≡ excess P U + bit (usedUp P U b)
+unfolding excess
+excess-snoc P U b h =
+    sum-ext 256 (λ c. cc (U ++ (b ∷ [])) c - cc P c) (λ c. cc (b ∷ U) c - cc P c) (λ c l. ap (λ (n : ℕ). n - cc P c) (cc-turned b U c))
+    ∙ excess-cons P b U h
+
 -- the excess never shrinks when a part of a window is extended to the left, and grows by at most 1 a byte
 pub excess-append : (P A R : List ℕ) → Bytes A → excess P (A ++ R) ≤ length A + excess P R
 excess-append P [] R h = omega arith
 excess-append P (b ∷ A) R h =
     let ih = excess-append P A R (bytes-tail h) in
     omega (arith, excess-cons P b (A ++ R) (bytes-head h), bit-le (usedUp P (A ++ R) b))
+
+pub excess-length : (P U : List ℕ) → Bytes U → excess P U ≤ length U
+excess-length P U h = omega (arith, rw (append-nil U, excess-nil P) at (excess-append P U [] h))
 
 pub excess-left : (P A R : List ℕ) → excess P R ≤ excess P (A ++ R)
 excess-left P A R = excess-mono P R (A ++ R) (λ c. omega (arith, cc-append A R c))

@@ -1,6 +1,8 @@
 -- The laws of the definitions and the theorems about them.
 pub mod Sums
 pub mod Counts
+pub mod Windows
+pub mod Selections
 pub mod Lg
 pub mod Drivers
 pub mod Cuts

@@ -45,6 +45,10 @@ matches P k W = leb (excess P W) k
 abbrev pub window : ℕ → List ℕ → ℕ → List ℕ
 window m T s = take m (drop s T)
 
+-- and these but the last one
+abbrev pub windowPrefix : ℕ → List ℕ → ℕ → List ℕ
+windowPrefix m T s = take (m - 1) (drop s T)
+
 -- How many window starts a text has: the s with s + m ≤ n are those below n + 1 - m
 abbrev pub starts : ℕ → List ℕ → ℕ
 starts m T = suc (length T) - m

@@ -1,10 +1,10 @@
 -- When a call says no: document 01, the section of that name. Numbers are those of its table; 0 says that nothing is refused.
 -- Each condition stands once, and each call's tests are put together from them, in its order.
-use Prim.Native.Nat.{ℕ, _+_, _-_, min}
-use mathlib.Core.Bool.{Bool, cond, not, _&&_, _||_}
+use Prim.Native.Nat.{ℕ, _+_, _-_, _*_, min}
+use mathlib.Core.Bool.{Bool, false, cond, not, _&&_, _||_}
 use mathlib.Core.List.{List, [], _∷_, _++_}
 use lib.Dec.{leb, ltb, eqb}
-use lib.ListN.{length}
+use lib.ListN.{length, getD}
 use Rattle.jumbled.specs.Fields.{layoutOf, bits}
 
 -- A row of the table: its number, and whether its condition holds
@@ -30,11 +30,39 @@ isMethod method = leb 1 method && leb method 5
 unfoldable pub exactOnly : ℕ → Bool
 exactOnly method = eqb method 2 || eqb method 3 || eqb method 5
 
+-- ---- of several numbers
+
+-- Some of them passes the test
+unfoldable pub anyOf : (ℕ → Bool) → List ℕ → Bool
+anyOf passes [] = false
+anyOf passes (x ∷ xs) = passes x || anyOf passes xs
+
+-- Their sum
+unfoldable pub total : List ℕ → ℕ
+total [] = 0
+total (x ∷ xs) = x + total xs
+
 -- ---- the conditions, each in a list of one test
+
+-- A pattern can't have m bytes
+abbrev pub badLength : ℕ → Bool
+badLength m = eqb m 0 || ltb 64 m
 
 -- 1, of a pattern of m bytes
 unfoldable pub lengthTests : ℕ → List Test
-lengthTests m = test 1 (eqb m 0 || ltb 64 m) ∷ []
+lengthTests m = test 1 (badLength m) ∷ []
+
+-- 1, of several patterns of these lengths: of any of them
+unfoldable pub eachLengthTests : List ℕ → List Test
+eachLengthTests lengths = test 1 (anyOf badLength lengths) ∷ []
+
+-- 12, of several patterns of these lengths in so many bytes: no pattern, more than eight, lengths that differ from the first one's, or other bytes
+-- than theirs
+unfoldable pub setTests : (lengths : List ℕ) (bytes : ℕ) → List Test
+setTests lengths bytes =
+    test 12
+    (eqb (length lengths) 0 || ltb 8 (length lengths) || anyOf (λ m. not (eqb m (getD lengths 0 0))) lengths || not (eqb (total lengths) bytes))
+    ∷ []
 
 -- 2, of k for a pattern of m bytes
 unfoldable pub toleranceTests : ℕ → ℕ → List Test
@@ -63,6 +91,10 @@ inputTests bytes = test 6 (ltb 16384 bytes) ∷ []
 -- 7, of a text or a chunk of so many bytes and a list of so many places
 unfoldable pub placeTests : (bytes places : ℕ) → List Test
 placeTests bytes places = test 7 (ltb places bytes) ∷ []
+
+-- 7, of a text of so many bytes, so many patterns, and two lists
+unfoldable pub pairPlaceTests : (bytes patterns positions numbers : ℕ) → List Test
+pairPlaceTests bytes patterns positions numbers = test 7 (ltb positions (bytes * patterns) || ltb numbers (bytes * patterns)) ∷ []
 
 -- 8, of a chunk of so many bytes after n
 unfoldable pub totalTests : (n bytes : ℕ) → List Test
@@ -105,6 +137,19 @@ sizeTests bytes places = textTests bytes ++ placeTests bytes places
 -- Whole search: 1 to 7
 unfoldable pub wholeTests : List ℕ → ℕ → ℕ → (bytes places : ℕ) → List Test
 wholeTests P k method bytes places = patternTests P k method ++ sizeTests bytes places
+
+-- Several patterns and k: 1 for every pattern, 12, 2
+unfoldable pub severalPatternTests : (lengths : List ℕ) (patternBytes k : ℕ) → List Test
+severalPatternTests lengths patternBytes k = eachLengthTests lengths ++ (setTests lengths patternBytes ++ toleranceTests (getD lengths 0 0) k)
+
+-- and a text for two lists: 6, 7
+unfoldable pub severalSizeTests : (bytes patterns positions numbers : ℕ) → List Test
+severalSizeTests bytes patterns positions numbers = textTests bytes ++ pairPlaceTests bytes patterns positions numbers
+
+-- Several patterns in one pass: 1, 12, 2, 6, 7
+unfoldable pub severalTests : (lengths : List ℕ) (patternBytes k bytes positions numbers : ℕ) → List Test
+severalTests lengths patternBytes k bytes positions numbers =
+    severalPatternTests lengths patternBytes k ++ severalSizeTests bytes (length lengths) positions numbers
 
 -- Of a search's parts, with a tail of t bytes after n: 1 to 5, then 9 for the tail
 unfoldable pub searchTests : List ℕ → ℕ → ℕ → (n t : ℕ) → List Test

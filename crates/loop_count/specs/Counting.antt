@@ -2,11 +2,12 @@
 use mathlib.Core.Path.{_≡_}
 use mathlib.Core.List.{List}
 use Prim.Native.Nat.{ℕ}
+use Rattle.jumbled.specs.Match.{windowPrefix}
 use Rattle.jumbled.specs.Steps.{countJudged}
 use Rattle.table_parikh.specs.Table.{parikh}
 use Rattle.lent.specs.declared.Range.{Range}
 use Rattle.lent.specs.Loops.{Fitting}
-use Rattle.loop_forward.specs.Windows.{windowPrefix, Ended}
+use Rattle.loop_forward.specs.Windows.{Ended}
 use Rattle.loop_forward.specs.declared.Sliding.{Sliding}
 use Rattle.loop_forward.specs.Counting.{Counting}
 use Rattle.loop_count.specs.declared.Counted.{Counted}

@@ -1,7 +1,7 @@
 -- How the counters and the excess of a sliding window follow the bytes that enter and leave it.
 use mathlib.Core.Path.{_≡_, refl, sym, ap, _∙_}
 use mathlib.Core.Bool.{Bool, true, false, cond}
-use mathlib.Core.List.{List, [], _∷_, _++_, append-nil}
+use mathlib.Core.List.{List, [], _∷_, _++_}
 use Prim.Native.Nat.{ℕ, _+_, _-_, _≤_, _<_}
 use native.Mathlib.Omega.{arith}
 use lib.Dec.{leb, eqb}
@@ -9,15 +9,12 @@ use lib.ListN.{length, getD, set, replicate}
 use mir.Val.{boolByte}
 use borrow.Author.Tests.{eq-eqb, eqb-true}
 use Rattle.jumbled.specs.Match.{Bytes, bit, cc, usedUp, excess}
-use Rattle.jumbled.proofs.Counts.{cc-cons, cc-length, excess-nil, excess-cons, excess-append}
+use Rattle.jumbled.proofs.Counts.{cc-cons, cc-length, excess-nil, excess-cons, excess-snoc, excess-length}
 use Rattle.table_parikh.specs.Table.{parikh}
 use Rattle.table_parikh.proofs.Tables.{tabulate-ext, tabulate-set}
 use Rattle.table_parikh.proofs.Parikh.{getD-parikh, parikh-nil, parikh-snoc}
-use Rattle.table_parikh.proofs.Excess.{excess-snoc, spent}
+use Rattle.table_parikh.proofs.Excess.{spent}
 use Rattle.loop_forward.specs.Counting.{Counting}
-
-excess-length : (P U : List ℕ) → Bytes U → excess P U ≤ length U
-excess-length P U h = omega (arith, rw (append-nil U, excess-nil P) at (excess-append P U [] h))
 
 -- the first byte leaves
 parikh-less : (U : List ℕ) (b : ℕ) → b < 256 → set (parikh (b ∷ U)) b (getD (parikh (b ∷ U)) b 0 - 1) ≡ parikh U

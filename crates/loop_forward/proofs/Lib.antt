@@ -1,4 +1,3 @@
-pub mod Windows
 pub mod Progress
 pub mod Counting
 pub mod Hashing

@@ -7,16 +7,16 @@ use Prim.Native.Nat.{ℕ, suc, _+_, _-_, _*_, _^_, _≤_, _<_}
 use native.Mathlib.Nat.{sub-self}
 use native.Mathlib.Omega.{arith}
 use lib.ListN.{length, getD, drop, set, length-take, length-drop, length-set}
-use Rattle.jumbled.specs.Match.{Bytes, window}
+use Rattle.jumbled.specs.Match.{Bytes, window, windowPrefix}
 use Rattle.jumbled.specs.Scan.{Result, Judged, forward}
 use Rattle.jumbled.proofs.Sums.{below-or-not}
 use Rattle.jumbled.proofs.Cuts.{_then_, forward-cut, forward-within}
 use Rattle.jumbled.proofs.Counts.{bytes-take, bytes-drop}
+use Rattle.jumbled.proofs.Windows.{window-last, window-first}
 use Rattle.lent.specs.declared.Range.{Range}
 use Rattle.lent.specs.Loops.{Fitting, Listed}
 use Rattle.lent.proofs.Listing.{share, listed-none, listed-skip, listed-more, passed-none, passed-room, passed-last, passed-all}
-use Rattle.loop_forward.specs.Windows.{windowPrefix, covered, Ended}
-use Rattle.loop_forward.proofs.Windows.{window-last, window-first}
+use Rattle.loop_forward.specs.Windows.{covered, Ended}
 
 -- what the windows of a range before the one at s yield
 abbrev pub resultBefore : (List ℕ → Judged) → ℕ → List ℕ → Range → ℕ → Result

@@ -3,9 +3,8 @@ use mathlib.Core.Path.{_≡_}
 use mathlib.Core.List.{List}
 use Prim.Native.Nat.{ℕ, _-_, _≤_}
 use lib.ListN.{length}
-use Rattle.jumbled.specs.Match.{excess}
+use Rattle.jumbled.specs.Match.{excess, windowPrefix}
 use Rattle.table_parikh.specs.Table.{parikh}
-use Rattle.loop_forward.specs.Windows.{windowPrefix}
 use Rattle.loop_forward.specs.declared.CountStart.{CountStart}
 
 -- The counters and the excess are those of the bytes U, for the pattern P

@@ -3,9 +3,9 @@ use mathlib.Core.Path.{_≡_}
 use mathlib.Core.List.{List}
 use Prim.Native.Nat.{ℕ, _-_, _≤_}
 use lib.ListN.{length}
+use Rattle.jumbled.specs.Match.{windowPrefix}
 use Rattle.jumbled.specs.Heap.{heapValue, heapSum}
 use Rattle.table_parikh.specs.Table.{tabulate}
-use Rattle.loop_forward.specs.Windows.{windowPrefix}
 use Rattle.loop_forward.specs.declared.HcamStart.{HcamStart}
 
 -- The sum is that of the bytes U, by the values of the pattern P

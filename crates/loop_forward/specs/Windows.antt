@@ -1,15 +1,10 @@
--- What a forward loop has taken before a window's last byte, and where it ends.
+-- Where a forward loop ends.
 use mathlib.Core.Path.{_≡_}
 use Prim.Native.Nat.{ℕ, _+_, _-_}
 use mathlib.Core.List.{List}
-use lib.ListN.{take, drop}
 use Rattle.jumbled.specs.Scan.{Judged, forward}
 use Rattle.lent.specs.declared.Range.{Range}
 use Rattle.lent.specs.Loops.{passed, Listed}
-
--- The window of m bytes at s but its last byte
-abbrev pub windowPrefix : ℕ → List ℕ → ℕ → List ℕ
-windowPrefix m T s = take (m - 1) (drop s T)
 
 -- How many of the range's windows a forward loop judges that has this list
 abbrev pub covered : (List ℕ → Judged) → ℕ → List ℕ → Range → List ℕ → ℕ

@@ -3,13 +3,14 @@ use mathlib.Core.Path.{_≡_}
 use mathlib.Core.List.{List}
 use Prim.Native.Nat.{ℕ}
 use lib.ListN.{length}
+use Rattle.jumbled.specs.Match.{windowPrefix}
 use Rattle.jumbled.specs.Steps.{hcamJudged}
 use Rattle.table_parikh.specs.Table.{parikh}
 use Rattle.table_heap.specs.declared.Target.{Target}
 use Rattle.table_heap.specs.Table.{HeapTabled}
 use Rattle.lent.specs.declared.Range.{Range}
 use Rattle.lent.specs.Loops.{Fitting}
-use Rattle.loop_forward.specs.Windows.{windowPrefix, Ended}
+use Rattle.loop_forward.specs.Windows.{Ended}
 use Rattle.loop_forward.specs.declared.Summed.{Summed}
 use Rattle.loop_forward.specs.Hashing.{Summing}
 use Rattle.loop_hcam.specs.declared.Hashed.{Hashed}

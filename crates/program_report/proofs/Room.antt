@@ -12,6 +12,7 @@ use Rattle.jumbled.specs.Steps.{steps}
 use Rattle.jumbled.specs.Refusals.{requestTests, programTests}
 use Rattle.jumbled.proofs.Admission.{given-append-none, Admitted, admitted, request-taken, request-numbered}
 use Rattle.jumbled.proofs.Sums.{below-or-not}
+use Rattle.jumbled.proofs.Selections.{select-few}
 use Rattle.lent.specs.Written.{Written}
 use Rattle.lent.proofs.Writing.{written-length}
 use Rattle.program_request.specs.Request.{requestMethod, requestTolerance, requestPattern, requestText, badLine}
@@ -27,16 +28,6 @@ use Rattle.program_report.proofs.Inspections.{steps-few}
 -- ---- the positions are few, and small
 
 module _ (test : ℕ → Bool) where
-  select-few : (s count : ℕ) → length (select test s count) ≤ count
-  unfolding select
-  select-few s zero = omega arith
-  select-few s (suc count) = pick (test s) (select-few (suc s) count)
-    where
-      pick : (t : Bool) → length (select test (suc s) count) ≤ count
-          → length (cond t (s ∷ select test (suc s) count) (select test (suc s) count)) ≤ suc count
-      pick true h = omega arith
-      pick false h = omega arith
-
   select-below : (s count n : ℕ) → s + count < n → (i : ℕ) → getD (select test s count) i 0 < n
   unfolding select
   select-below s zero n l i = omega arith

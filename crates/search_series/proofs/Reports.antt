@@ -1,9 +1,9 @@
 -- The report of a feed: what the longer text lists beyond the shorter one, and what the tail followed by the chunk lists.
 use mathlib.Core.Path.{_≡_, refl, sym, ap, ap₂, _∙_}
 use mathlib.Core.Bool.{Bool, true, false, cond, _&&_}
-use mathlib.Core.List.{List, [], _∷_, _++_}
+use mathlib.Core.List.{List, _∷_, _++_}
 use Prim.Native.Nat.{ℕ, zero, suc, _+_, _-_, _≤_, _<_}
-use native.Mathlib.Nat.{add-zero, zero-add, add-suc, suc-add}
+use native.Mathlib.Nat.{add-suc}
 use native.Mathlib.Omega.{arith}
 use lib.ListN.{length, take, drop, length-append, length-drop}
 use lib.Seq.{drop-drop, drop-append-le, take-append-le}
@@ -11,36 +11,11 @@ use borrow.Author.Tests.{lt-ltb, le-ltb}
 use Rattle.jumbled.specs.Match.{matches, window, starts, select, positions}
 use Rattle.lent.specs.Placed.{shifted}
 use Rattle.jumbled.specs.Refusals.{tailLength}
+use Rattle.jumbled.proofs.Selections.{select-cut, select-same, select-none}
 use Rattle.search_state.specs.Stored.{lastOf}
 use Rattle.search_series.specs.History.{reportOf}
 
 -- ---- select
-
-select-cut : (test : ℕ → Bool) (s a b : ℕ) → select test s (a + b) ≡ select test s a ++ select test (s + a) b
-unfolding select
-select-cut test s zero b = rw (zero-add b, add-zero s) refl
-select-cut test s (suc a) b =
-    rw (suc-add a b, add-suc s a, ← suc-add s a) (case (test s) (select-cut test (suc s) a b))
-  where
-    case : (t : Bool) → select test (suc s) (a + b) ≡ select test (suc s) a ++ select test (suc s + a) b
-        → cond t (s ∷ select test (suc s) (a + b)) (select test (suc s) (a + b))
-        ≡ cond t (s ∷ select test (suc s) a) (select test (suc s) a) ++ select test (suc s + a) b
-    case true e = ap (λ (l : List ℕ). s ∷ l) e
-    case false e = e
-
--- tests that agree on the range
-select-same : (test test′ : ℕ → Bool) (s count : ℕ) → ((i : ℕ) → s ≤ i → i < s + count → test i ≡ test′ i) → select test s count ≡ select test′ s count
-unfolding select
-select-same test test′ s zero same = refl
-select-same test test′ s (suc count) same =
-    ap₂ (λ (t : Bool) (l : List ℕ). cond t (s ∷ l) l) (same s (omega arith) (omega arith))
-    (select-same test test′ (suc s) count (λ i least below. same i (omega arith) (omega arith)))
-
-select-none : (test : ℕ → Bool) (s count : ℕ) → ((i : ℕ) → s ≤ i → i < s + count → test i ≡ false) → select test s count ≡ []
-unfolding select
-select-none test s zero none = refl
-select-none test s (suc count) none =
-    rw (none s (omega arith) (omega arith)) (select-none test (suc s) count (λ i least below. none i (omega arith) (omega arith)))
 
 -- a test that fails in the first places, and agrees with another one from then on
 select-from : (test test′ : ℕ → Bool) (a b all : ℕ) → all ≡ a + b → ((i : ℕ) → i < a → test i ≡ false) → ((i : ℕ) → a ≤ i → test i ≡ test′ i)

@@ -73,7 +73,7 @@ pack-add w u v zero = refl
 pack-add w u v (suc n) = let ih = pack-add w u v n in omega (arith, add-mul (u n) (v n) (2 ^ sum n w))
 
 -- and so do masks, where each field holds a number of its width
-pack-and : (w u v : ℕ → ℕ) (n : ℕ) → ValuesFit w u n → ValuesFit w v n → bitAnd (pack w u n) (pack w v n) ≡ pack w (λ f. bitAnd (u f) (v f)) n
+pub pack-and : (w u v : ℕ → ℕ) (n : ℕ) → ValuesFit w u n → ValuesFit w v n → bitAnd (pack w u n) (pack w v n) ≡ pack w (λ f. bitAnd (u f) (v f)) n
 unfolding pack
 pack-and w u v zero hu hv = refl
 pack-and w u v (suc n) hu hv =
@@ -141,7 +141,7 @@ bit-test zero l = refl
 bit-test (suc zero) l = refl
 bit-test (suc (suc b)) l = absurd (omega arith)
 
-and-top : (v g : ℕ) → bitAnd v (2 ^ g) ≡ (v / 2 ^ g % 2) * 2 ^ g
+pub and-top : (v g : ℕ) → bitAnd v (2 ^ g) ≡ (v / 2 ^ g % 2) * 2 ^ g
 and-top v g =
     let same : 2 ^ (1 + g) - 2 ^ g ≡ 2 ^ g = omega (arith, pow-add 2 1 g) in
     ap (bitAnd v) (sym same) ∙ and-high v 1 g

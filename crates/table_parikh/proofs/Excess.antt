@@ -1,30 +1,19 @@
 -- The excess of bytes that are counted one after another, and what their counters say of it.
 use mathlib.Core.Path.{_≡_, sym, ap, _∙_}
 use mathlib.Core.Bool.{true, false}
-use mathlib.Core.List.{List, [], _∷_, _++_}
+use mathlib.Core.List.{List}
 use Prim.Native.Nat.{ℕ, _+_, _-_, _≤_, _<_}
-use native.Mathlib.Nat.{add-comm, le-of-eq}
+use native.Mathlib.Nat.{le-of-eq}
 use native.Mathlib.Omega.{arith}
 use lib.Dec.{leb}
 use lib.ListN.{length, getD, take}
 use lib.Seq.{take-all}
 use borrow.Author.Tests.{le-leb, lt-leb}
 use Rattle.jumbled.specs.Match.{bit, cc, usedUp, excess, matches}
-use Rattle.jumbled.proofs.Sums.{sum-ext}
-use Rattle.jumbled.proofs.Counts.{cc-append, cc-take, excess-cons, excess-mono, used-up-test}
+use Rattle.jumbled.proofs.Counts.{cc-take, excess-snoc, excess-mono, used-up-test}
 use Rattle.table_parikh.specs.Table.{parikh}
 use Rattle.table_parikh.proofs.Parikh.{getD-parikh}
 use Rattle.table_parikh.proofs.Letters.{take-more}
-
--- the order of bytes does not matter to their counts, nor to the excess
-cc-turned : (b : ℕ) (U : List ℕ) (c : ℕ) → cc (U ++ (b ∷ [])) c ≡ cc (b ∷ U) c
-cc-turned b U c = cc-append U (b ∷ []) c ∙ add-comm (cc U c) (cc (b ∷ []) c) ∙ sym (cc-append (b ∷ []) U c)
-
-pub excess-snoc : (P U : List ℕ) (b : ℕ) → b < 256 → excess P (U ++ (b ∷ [])) ≡ excess P U + bit (usedUp P U b)
-unfolding excess
-excess-snoc P U b h =
-    sum-ext 256 (λ c. cc (U ++ (b ∷ [])) c - cc P c) (λ c. cc (b ∷ U) c - cc P c) (λ c l. ap (λ (n : ℕ). n - cc P c) (cc-turned b U c))
-    ∙ excess-cons P b U h
 
 -- what the counters of the pattern and of the bytes U say of a byte
 pub spent : (P U : List ℕ) {allowed counts : List ℕ} {b : ℕ} → allowed ≡ parikh P → counts ≡ parikh U → b < 256

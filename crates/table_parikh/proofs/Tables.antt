@@ -13,7 +13,7 @@ use borrow.Author.Tests.{eqb-true, eqb-false}
 use Rattle.jumbled.proofs.Sums.{below-or-not}
 use Rattle.table_parikh.specs.Table.{tabulate}
 
-length-tabulate : (n : ℕ) (f : ℕ → ℕ) → length (tabulate n f) ≡ n
+pub length-tabulate : (n : ℕ) (f : ℕ → ℕ) → length (tabulate n f) ≡ n
 unfolding tabulate
 length-tabulate zero f = refl
 length-tabulate (suc n) f = length-append (tabulate n f) (f n ∷ []) ∙ ap (λ (k : ℕ). k + 1) (length-tabulate n f) ∙ add-one n
@@ -30,7 +30,7 @@ getD-tabulate (suc n) f i l =
     getD-at (tabulate n f) (f n) [] 0 i (length-tabulate n f ∙ sym same) ∙ ap f (sym same)) (below-or-not i n)
 
 -- a list of n entries that are f's
-is-tabulate : (n : ℕ) (f : ℕ → ℕ) (l : List ℕ) → length l ≡ n → ((i : ℕ) → i < n → getD l i 0 ≡ f i) → l ≡ tabulate n f
+pub is-tabulate : (n : ℕ) (f : ℕ → ℕ) (l : List ℕ) → length l ≡ n → ((i : ℕ) → i < n → getD l i 0 ≡ f i) → l ≡ tabulate n f
 is-tabulate n f l e h =
     ext-getD 0 l (tabulate n f) (e ∙ sym (length-tabulate n f))
     (λ i m. let k : i < n = omega arith in h i k ∙ sym (getD-tabulate n f i k))

@@ -9,11 +9,10 @@ use mir.Val.{boolByte}
 use lib.Dec.{leb}
 use lib.ListN.{getD, set}
 use borrow.Author.Tests.{ltb-true, ltb-false}
-use Rattle.jumbled.specs.Match.{window}
+use Rattle.jumbled.specs.Match.{window, windowPrefix}
 use Rattle.jumbled.specs.Steps.{countJudged}
 use Rattle.table_parikh.specs.Table.{parikh}
 use Rattle.lent.specs.declared.Range.{Range}
-use Rattle.loop_forward.specs.Windows.{windowPrefix}
 use Rattle.loop_forward.specs.Counting.{Counting}
 use Rattle.loop_forward.proofs.Progress.{Progress, progress-none, Turn, whole, last-byte, first-byte, both-bytes, by-last, by-first, prefix-bytes, prefix-short, has-room, has-number, has-inspections, turn-listed, turn-skipped, ended}
 use Rattle.loop_forward.proofs.Counting.{counting-more, counter-room, excess-room, counting-less, counter-there, excess-there}

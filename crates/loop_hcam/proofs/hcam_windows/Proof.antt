@@ -9,15 +9,14 @@ use native.Mathlib.Omega.{arith}
 use lib.Dec.{eqb}
 use lib.ListN.{length, getD, set, take, drop, length-set}
 use borrow.Author.Tests.{eqb-true, eqb-false, not-true, not-false}
-use Rattle.jumbled.specs.Match.{matches, window}
+use Rattle.jumbled.specs.Match.{matches, window, windowPrefix}
+use Rattle.jumbled.proofs.Windows.{window-part}
 use Rattle.jumbled.specs.Heap.{heapSum}
 use Rattle.jumbled.specs.Steps.{hcamJudged}
 use Rattle.table_parikh.proofs.Allowed.{within-matches}
 use Rattle.table_heap.specs.declared.Target.{Target}
 use Rattle.table_heap.specs.Table.{HeapTabled}
 use Rattle.lent.specs.declared.Range.{Range}
-use Rattle.loop_forward.specs.Windows.{windowPrefix}
-use Rattle.loop_forward.proofs.Windows.{window-part}
 use Rattle.loop_forward.proofs.Progress.{Progress, progress-none, Turn, whole, last-byte, first-byte, both-bytes, by-last, by-first, window-whole, has-room, has-number, has-inspections, turn-listed, turn-skipped, ended}
 use Rattle.loop_forward.specs.Hashing.{Summing}
 use Rattle.loop_forward.proofs.Hashing.{summing-more, summing-less}

@@ -6,8 +6,7 @@ use native.Mathlib.Numerals.{add-one}
 use native.Mathlib.Omega.{arith}
 use lib.ListN.{length, getD, take, drop, length-drop}
 use lib.Seq.{take-suc, drop-cons, getD-drop}
-use Rattle.jumbled.specs.Match.{window}
-use Rattle.loop_forward.specs.Windows.{windowPrefix}
+use Rattle.jumbled.specs.Match.{window, windowPrefix}
 
 -- a window as a part of the text from its start to its end
 pub window-part : (m : ℕ) (T : List ℕ) (s : ℕ) → take (s + m - s) (drop s T) ≡ window m T s

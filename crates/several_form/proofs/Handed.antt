@@ -1,0 +1,67 @@
+-- The patterns by their lengths, where these are all alike.
+use mathlib.Core.Path.{_≡_, refl, sym, ap, ap₂, _∙_}
+use mathlib.Core.Bool.{false, not}
+use mathlib.Core.List.{List, [], _∷_}
+use Prim.Native.Nat.{ℕ, zero, suc, _+_, _-_, _*_, _≤_, _<_}
+use native.Mathlib.Nat.{suc-mul, zero-mul, mul-le-mul-right}
+use native.Mathlib.Omega.{arith}
+use lib.Dec.{eqb}
+use lib.ListN.{length, getD, take, drop, length-take, length-drop}
+use lib.Seq.{drop-drop}
+use borrow.Author.Tests.{eqb-true, not-false}
+use Rattle.jumbled.specs.Refusals.{anyOf, total}
+use Rattle.jumbled.proofs.Admission.{or-false}
+use Rattle.several_form.specs.Finds.{Together}
+use Rattle.several_form.specs.Handed.{patternsOf}
+
+-- all of them are m
+abbrev pub Alike : ℕ → List ℕ → Type 0
+Alike m lengths = anyOf (λ x. not (eqb x m)) lengths ≡ false
+
+module _ (m : ℕ) where
+  first-alike : (x : ℕ) (lengths : List ℕ) → Alike m (x ∷ lengths) → (x ≡ m) × Alike m lengths
+  unfolding anyOf
+  first-alike x lengths e =
+      let both = or-false (not (eqb x m)) (anyOf (λ y. not (eqb y m)) lengths) e in
+      (eqb-true x m (not-false (eqb x m) (both .0)), both .1)
+
+  pub total-alike : (lengths : List ℕ) → Alike m lengths → total lengths ≡ length lengths * m
+  unfolding total
+  total-alike [] e = sym (zero-mul m)
+  total-alike (x ∷ lengths) e =
+      let both = first-alike x lengths e in
+      omega (arith, both .0, total-alike lengths (both .1), suc-mul (length lengths) m)
+
+  -- the pattern in each place
+  pub pattern-at : (lengths bytes : List ℕ) → Alike m lengths → (f : ℕ) → f < length lengths → getD (patternsOf lengths bytes) f [] ≡ take m (drop (f * m) bytes)
+  unfolding patternsOf
+  pattern-at [] bytes e f h = absurd (omega arith)
+  pattern-at (x ∷ lengths) bytes e zero h = ap₂ (λ (n i : ℕ). take n (drop i bytes)) (first-alike x lengths e .0) (sym (zero-mul m))
+  pattern-at (x ∷ lengths) bytes e (suc f) h =
+      let both = first-alike x lengths e in
+      let next : x + f * m ≡ suc f * m = omega (arith, both .0, suc-mul f m) in
+      pattern-at lengths (drop x bytes) (both .1) f (omega arith)
+      ∙ ap (take m) (drop-drop (f * m) x bytes)
+      ∙ ap (λ (n : ℕ). take m (drop n bytes)) next
+
+pub as-many-patterns : (lengths bytes : List ℕ) → length (patternsOf lengths bytes) ≡ length lengths
+unfolding patternsOf
+as-many-patterns [] bytes = refl
+as-many-patterns (m ∷ lengths) bytes = ap suc (as-many-patterns lengths (drop m bytes))
+
+-- Lengths that are all m, 1 to 64, and together as many bytes as there are: the patterns are searched together
+pub together : (m : ℕ) (lengths bytes : List ℕ) → 1 ≤ m → m ≤ 64 → 1 ≤ length lengths → Alike m lengths → length lengths * m ≡ length bytes
+    → Together (patternsOf lengths bytes) m
+together m lengths bytes some short some-pattern alike all =
+    record {
+      some-pattern = rw (as-many-patterns lengths bytes) some-pattern;
+      some = some;
+      short = short;
+      one-length = λ number from to. whole (number - 1) (omega (arith, as-many-patterns lengths bytes));
+    }
+  where
+    whole : (f : ℕ) → f < length lengths → length (getD (patternsOf lengths bytes) f []) ≡ m
+    whole f l =
+        let ends : suc f * m ≤ length lengths * m = mul-le-mul-right m l in
+        ap length (pattern-at m lengths bytes alike f l)
+        ∙ omega (arith, length-take m (drop (f * m) bytes), length-drop (f * m) bytes, suc-mul f m)

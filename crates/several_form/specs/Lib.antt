@@ -1,0 +1,3 @@
+pub mod Finds
+pub mod Mcount
+pub mod Handed
