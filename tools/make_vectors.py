@@ -58,6 +58,7 @@ def replay(data, coverage):
         vs.SET_METHOD: stream.set_method, vs.SAVE: stream.save, vs.LOAD: stream.load,
         vs.HAND: lambda *fields: stream.hand(ref.Stored(*fields)),
         vs.REPORT: stream.report, vs.WIDTH: stream.width, vs.EXACT: stream.exact,
+        vs.SEVERAL: stream.several,
     }
     different = []
     for op, arguments, outcome in vs.read_cases(data):

@@ -809,6 +809,197 @@ def bad_lines_of_long_inputs(stream, rng):
         stream.report(scattered(size, rng.randrange(2**32), b"x\n"))
 
 
+# --- Several patterns in one pass (document 02, T-01) --------------------------------------
+
+
+def several(stream, patterns, k, text, places=None, numbers=None, lengths=None):
+    """In each list as many places as bytes times patterns, and the lengths that
+    the patterns have, unless something else is said."""
+    text = vs.as_text(text)
+    lengths = [len(pattern) for pattern in patterns] if lengths is None else lengths
+    most = len(text.value) * len(lengths)
+    handed = vs.Handed(most if numbers is None else numbers, lengths, b"".join(patterns))
+    return stream.several(handed, k, text, most if places is None else places)
+
+
+def made_patterns(rng, count, m, own):
+    """That many patterns of m bytes, from some letters."""
+    return [bytes(rng.choice(own) for _ in range(m)) for _ in range(count)]
+
+
+def numbers_of_patterns(stream, rng):
+    """Number 12 on both sides of one and of eight patterns."""
+    for count in (0, 1, 2, 3, 7, 8, 9, 16):
+        several(stream, made_patterns(rng, count, 1, b"ab"), 0, repeated(9, b"aab"))
+        several(stream, made_patterns(rng, count, 3, b"ab"), 2, b"abaab")
+    for count in range(1, 9):
+        several(stream, made_patterns(rng, count, 2, b"ab"), 0, repeated(7, b"aab"))
+
+
+def lengths_of_patterns(stream, rng):
+    """Numbers 1 and 12 by the lengths: one length that no pattern can have, at
+    any place, comes before all else; then lengths that differ."""
+    every = 0, 1, 2, 4, 64, 65, 256 + 3, 2**32 + 3, 2**63, 2**64 - 1
+    for count, others in ((1, every), (2, every), (8, (0, 4, 65)), (9, (0, 65))):
+        for at, m in itertools.product(sorted({0, count - 2, count - 1} - {-1}), others):
+            lengths = [3] * count
+            lengths[at] = m
+            handed = b"abc" * (count - 1) + b"abc"[: min(m, 3)]
+            several(stream, [handed], 0, b"abcab", lengths=lengths)
+    # Lengths whose sum wraps to the number of bytes.
+    for lengths, handed in (
+        ([2**63, 2**63], b""), ([2**61] * 8, b""), ([2**64 - 1, 4], b"abc"), ([3, 2**64 - 2], b"a"),
+    ):
+        several(stream, [handed], 0, b"abc", lengths=lengths)
+    # Lengths with the sum that they would have if they were alike.
+    for lengths in ((2, 3, 1), (1, 3), (3, 2, 4, 3), (3, 3, 3, 3, 3, 3, 2, 4), (2, 4, 3), (63, 64)):
+        several(stream, [letters(sum(lengths))], 0, b"ab", lengths=list(lengths))
+
+
+def bytes_of_patterns(stream, rng):
+    """Number 12 where the lengths are not those of the bytes."""
+    for count, m in ((1, 1), (1, 3), (2, 3), (8, 2), (1, 64)):
+        size = count * m
+        for handed in sorted({0, size - m, size - 1, size, size + 1, size + m}):
+            patterns = [repeated(handed, b"abc").value]
+            several(stream, patterns, 0, b"abab", lengths=[m] * count)
+
+
+def tolerances_of_several(stream, rng):
+    """Number 2 at its edge."""
+    for count, m in ((1, 1), (8, 1), (2, 2), (3, 3), (1, 63), (2, 64)):
+        patterns = made_patterns(rng, count, m, b"ab")
+        for k in sorted({0, m - 1, m, m + 1, 255}):
+            several(stream, patterns, k, repeated(m + 3, b"abc"))
+
+
+def edges_of_several(stream, rng):
+    """All numbers with one another: every choice of tests that apply."""
+    for bad, odd, large, long, few in itertools.product((False, True), repeat=5):
+        lengths = [2, 65 if bad else 2, 2]
+        patterns = [b"ab", b"ba", b"bbb" if odd else b"bb"]
+        text = repeated(65537, b"ab") if long else b"abbab"
+        several(stream, patterns, 2 if large else 1, text, 14 if few else 65537, 65537, lengths)
+    for k, text in ((0, b"ab"), (9, b"ab"), (0, repeated(65537, b"ab"))):
+        several(stream, [], k, text)
+        several(stream, [b"ab"] * 9, k, text, 1, 0)
+        several(stream, [b"ab"] * 8 + [b""], k, text, 1, 0)
+        several(stream, [b"ab", b"abc"], k, text, 1, 0)
+
+
+def places_of_several(stream, rng):
+    """Number 7 at its edge, in either list, and lists that are longer than they
+    have to be, also by unlike numbers of places."""
+    for n, count in ((1, 1), (5, 2), (4, 3), (0, 1), (3, 8)):
+        most = n * count
+        for places, numbers in (
+            (most, most), (most + 1, most), (most, most + 9), (most + 20, most + 3),
+            (most - 1, most), (most, most - 1), (most - 1, most + 1), (most + 1, most - 1),
+            (0, most), (most, 0), (n, n),
+        ):
+            if places >= 0 and numbers >= 0:
+                several(stream, [b"ab"] * count, 0, repeated(n, b"ab"), places, numbers)
+    several(stream, [b"ab"] * 8, 0, b"", 0, 0)
+    for n, count, places, numbers in (
+        (8192, 8, 65536, 65536), (8192, 8, 65535, 65536), (8192, 8, 65536, 65535),
+        (8192, 8, 65537, 65536), (8193, 8, 65537, 65537), (65536, 1, 65536, 65536),
+        (65536, 1, 65536, 65535), (65536, 1, 65535, 65536), (65536, 2, 65537, 65537),
+        (65537, 1, 65537, 65537), (65537, 1, 0, 0), (65537, 8, 65537, 65537),
+        (65537, 2, 65536, 65537), (32768, 2, 65536, 65536),
+        (9362, 7, 65534, 65537), (9362, 7, 65533, 65537),
+    ):
+        several(stream, [b"aab"] * count, 0, repeated(n, b"abaax"), places, numbers)
+
+
+def texts_of_several(stream, rng):
+    """Texts shorter than the patterns, of their length, one longer, and longer."""
+    for m, count in ((1, 2), (2, 1), (2, 8), (3, 3), (63, 1), (64, 1), (64, 2), (63, 8)):
+        own = some_letters(rng, 3)
+        for n in sorted({0, 1, m - 1, m, m + 1, 2 * m + 1}) if count * m < 500 else (m - 1, m):
+            patterns = [shuffled(rng, repeated(m, own).value) for _ in range(count)]
+            several(stream, patterns, rng.choice((0, rng.randrange(m))), repeated(n, own))
+
+
+def patterns_alike(stream, rng):
+    """One pattern several times, patterns that are mixes of one another, and
+    windows that match all of them, or none."""
+    for pattern, k, text in (
+        (b"a", 0, b"aabaa"), (b"ab", 0, b"abbaabxba"), (b"aab", 1, b"abaxaabbb"),
+        (b"abcd", 2, b"dcbaxabdc"), (b"\0\xff", 0, b"\xff\0\0\xff"),
+    ):
+        other = bytes((c + 7) % 256 for c in pattern)
+        for count in (2, 4):
+            several(stream, [pattern] * count, k, text)
+            several(stream, [shuffled(rng, pattern) for _ in range(count)], k, text)
+            several(stream, [other] * count, k, text)
+            several(stream, [other] * (count - 1) + [pattern], k, text)
+        several(stream, [pattern, other] * 4, k, text)
+    mixes = [bytes(each) for each in itertools.permutations(b"abc")]
+    several(stream, mixes + mixes[:2], 0, repeated(30, b"abcxcba"))
+    several(stream, [b"aba"] * 8, 0, repeated(30, b"ab"))
+    for n, count in ((20, 1), (20, 2), (20, 8), (8192, 8), (65536, 1)):
+        several(stream, [b"a"] * count, 0, repeated(n, b"a"))
+    for k in range(3):
+        several(stream, [b"aaa", b"aab", b"abb", b"bbb"], k, scattered(60, k, b"abc"[: 2 + k // 2]))
+    for pattern, k, text, _, _ in SHEET:
+        several(stream, [pattern], k, text)
+        several(stream, [text[: len(pattern)].ljust(len(pattern)), pattern], k, text)
+
+
+def bytes_of_several(stream, rng):
+    """Every byte value in a pattern and in a text, beside its neighbours."""
+    for first in range(0, 256, 8):
+        own = bytes(range(first, first + 8))
+        near = bytes([(first - 1) % 256]) + own + bytes([(first + 8) % 256, first ^ 128])
+        several(stream, [bytes([c]) for c in own], 0, near)
+    wide = [bytes(range(first, first + 64)) for first in range(0, 256, 64)]
+    several(stream, wide, 60, repeated(300, bytes(range(255))))
+
+
+def fields_at_their_limits(stream, rng):
+    """64 of a byte in a pattern and in a window, and fields beside them that
+    are as low as they get: no field may reach into its neighbour."""
+    same = [b"a" * 64] * 8
+    turns = [b"a" * 64, b"b" * 64] * 4
+    for patterns, k, unit, n in (
+        (same, 0, b"a", 70), (same, 63, b"a", 70), (same, 63, b"x", 70),
+        (turns, 0, b"a" * 64 + b"b" * 64, 255),
+        (turns, 63, b"b" * 64 + b"x" * 65 + b"a" * 64, 255),
+        (turns[:2], 31, b"a" * 64 + b"b" * 64, 255), (turns[:1], 63, b"x" * 63 + b"a", 200),
+        (turns[1:3], 0, b"a" * 65 + b"b" * 66, 255), (turns[:2], 63, b"x" * 64 + b"ba", 200),
+    ):
+        several(stream, patterns, k, repeated(n, unit))
+
+
+def made_several(stream, rng):
+    """One to eight patterns of few letters, and every k of short ones."""
+    for m in range(1, 7):
+        for k in range(m):
+            for count in range(1 + k % 2, 9, 2):
+                own = some_letters(rng, rng.randrange(2, 4))
+                patterns = made_patterns(rng, count, m, own[:2])
+                text = scattered(rng.randrange(m, 40), rng.randrange(2**32), own)
+                several(stream, patterns, k, text)
+    for _ in range(40):
+        m, count = rng.randrange(1, 12), rng.randrange(1, 6)
+        own = pattern_of(rng, m, rng.randrange(1, 5))
+        k = rng.choice((0, rng.randrange(m)))
+        patterns = [with_errors(rng, own, rng.randrange(min(m, 3) + 1)) for _ in range(count)]
+        text = make_text(rng, rng.choice(patterns), k, rng.randrange(2 * m + 8))
+        most = len(text) * count
+        several(stream, patterns, k, text, most + rng.choice((0, 0, 3)), most + rng.choice((0, 1)))
+
+
+def long_texts_of_several(stream, rng):
+    for n, count, m, k, own in (
+        (8192, 8, 5, 1, b"abc"), (8192, 8, 12, 2, b"ab"), (2000, 8, 24, 7, b"abcd"),
+        (2000, 3, 64, 20, b"abcd"), (20000, 3, 7, 0, b"ab"), (32768, 2, 2, 0, b"abc"),
+        (65536, 1, 3, 1, b"abcd"),
+    ):
+        patterns = made_patterns(rng, count, m, own)
+        several(stream, patterns, k, scattered(n, rng.randrange(2**32), own + b"x"[: count % 2]))
+
+
 # --- All of them ----------------------------------------------------------------------------
 
 FAMILIES = (
@@ -842,4 +1033,16 @@ FAMILIES = (
     patterns_and_records,
     input_lengths,
     bad_lines_of_long_inputs,
+    numbers_of_patterns,
+    lengths_of_patterns,
+    bytes_of_patterns,
+    tolerances_of_several,
+    edges_of_several,
+    places_of_several,
+    texts_of_several,
+    patterns_alike,
+    bytes_of_several,
+    fields_at_their_limits,
+    made_several,
+    long_texts_of_several,
 )

@@ -5,18 +5,20 @@ from collections import Counter
 import reference as ref
 from compare import METHODS, Coverage
 from vectors_stream import (
-    EXACT, FEED, HAND, LOAD, OPEN, REPORT, SAVE, SET_METHOD, WHOLE, WIDTH,
+    EXACT, FEED, HAND, LOAD, OPEN, REPORT, SAVE, SET_METHOD, SEVERAL, WHOLE, WIDTH, Handed,
 )
 
 NAMES = {
     WHOLE: "whole search", OPEN: "open", FEED: "feed", SET_METHOD: "set method", SAVE: "save",
-    LOAD: "load", REPORT: "report", WIDTH: "width", EXACT: "exact",
+    LOAD: "load", REPORT: "report", WIDTH: "width", EXACT: "exact", SEVERAL: "several patterns",
 }
 
-# Document 01, "When a call says no": the numbers of each call.
+# Document 01, "When a call says no", and document 02, T-01: the numbers of each
+# call.
 NUMBERS = {
     WHOLE: range(8), OPEN: range(6), FEED: range(10), SET_METHOD: (0, 1, 2, 3, 4, 5, 9),
     SAVE: (0, 1, 2, 3, 4, 5, 9, 10), LOAD: (0, 1, 2, 3, 4, 5, 9),
+    SEVERAL: (0, 1, 2, 6, 7, 12),
 }
 
 # The fewest cases of kinds that are easily thin.
@@ -28,6 +30,12 @@ FEWEST = {
     "feeds with a failed verification of a window that begins in the tail": 30,
     "feeds with a failed verification of a window in the chunk": 15,
     "searches with a failed verification and a match": 30,
+    "a window that matches several patterns": 100,
+    "a window that matches all of eight patterns": 10,
+    "several patterns, and no window matches": 15,
+    "several patterns, of which two are equal": 50,
+    "pairs that fill both lists": 5,
+    "lists of unlike length for several patterns": 10,
 }
 
 # --- The tests of each call, in their order ------------------------------------
@@ -46,6 +54,14 @@ def terms_tests(pattern, k, method):
 def search_tests(search):
     tail = min(search.n, len(search.pattern) - 1)
     return terms_tests(search.pattern, search.k, search.method) + [(9, len(search.tail) != tail)]
+
+
+def handed_tests(handed, k):
+    lengths = handed.lengths
+    apart = not 1 <= len(lengths) <= 8 or len(set(lengths)) > 1
+    wrong = sum(lengths) != len(handed.data)
+    bad = any(m not in range(1, 65) for m in lengths)
+    return [(1, bad), (12, apart or wrong), (2, len(lengths) > 0 and k >= lengths[0])]
 
 
 def tests_of(op, arguments, search):
@@ -67,6 +83,10 @@ def tests_of(op, arguments, search):
     if op == LOAD:
         loaded = ref.parts_of(*arguments)
         return search_tests(loaded) if loaded else [(9, True)]
+    if op == SEVERAL:
+        handed, k, text, places = arguments
+        fewer = min(places, handed.places) < len(text) * len(handed.lengths)
+        return handed_tests(handed, k) + [(6, len(text) > 65536), (7, fewer)]
     return []
 
 
@@ -88,6 +108,7 @@ EXAMPLES = {
     SET_METHOD: ((1,), ref.BLANK),
     SAVE: ((0,), ref.BLANK),
     LOAD: ((ref.image_of(ref.BLANK),), ref.BLANK),
+    SEVERAL: ((Handed(0, [1], b"a"), 0, b"", 0), ref.BLANK),
 }
 
 # --- Coverage ------------------------------------------------------------------
@@ -109,6 +130,8 @@ class VectorCoverage(Coverage):
         self.hands = 0
         self.pairs = Counter()
         self.counts = Counter()
+        self.together = set()
+        self.in_several = set()
 
     def case(self, op, arguments, number, before):
         """A case, and the stored search before it."""
@@ -129,6 +152,26 @@ class VectorCoverage(Coverage):
         elif op == FEED and not number:
             self.searched(search.pattern, search.k, search.method, search.tail + arguments[0])
             self.verifications(op, search.pattern, search.method, search.tail, arguments[0])
+        elif op == SEVERAL and not number:
+            self.several(*arguments)
+
+    def several(self, handed, k, text, places):
+        patterns = ref.cut_up(handed.data, handed.lengths)
+        pairs = ref.listed_pairs(patterns, k, text)
+        at_once = Counter(s for s, _ in pairs).values()
+        m, n, count = handed.lengths[0], len(text), len(patterns)
+        side = "shorter" if n < m else "equal" if n == m else "longer"
+        self.together |= {("count", count), ("m, k", m, k), ("m, text", m, side)}
+        self.in_several |= set(handed.data) & set(text)
+        for kind, holds in (
+            ("a window that matches several patterns", count > 1 and max(at_once, default=0) > 1),
+            ("a window that matches all of eight patterns", count == 8 and 8 in at_once),
+            ("several patterns, and no window matches", count > 1 and n >= m and not pairs),
+            ("several patterns, of which two are equal", len(set(patterns)) < count),
+            ("pairs that fill both lists", places == handed.places == len(pairs) > 0),
+            ("lists of unlike length for several patterns", places != handed.places),
+        ):
+            self.counts[kind] += holds
 
     def first_line(self, given):
         if ref.parse_input(given) is None:
@@ -179,6 +222,17 @@ class VectorCoverage(Coverage):
         print("  the program's answers, and then the accepted searches of all kinds:")
         super().report()
 
+    def wanted_together(self):
+        """Every number of patterns, every k of short ones, and the edges."""
+        for count in range(1, 9):
+            yield "count", count
+        for m in (1, 2, 3, 4, 5, 6, 63, 64):
+            for k in range(m) if m < 63 else (0, m - 1):
+                yield "m, k", m, k
+        for m in (1, 2, 3, 63, 64):
+            for side in ("shorter", "equal", "longer"):
+                yield "m, text", m, side
+
     def gaps(self):
         missing = []
         for op, numbers in NUMBERS.items():
@@ -204,7 +258,10 @@ class VectorCoverage(Coverage):
         for kind, fewest in FEWEST.items():
             if self.counts[kind] < fewest:
                 missing.append("%d cases of %s, but %d" % (fewest, kind, self.counts[kind]))
-        if len(self.in_pattern) < 256 or len(self.in_text) < 256:
+        for reached in self.wanted_together():
+            if reached not in self.together:
+                missing.append("several patterns with %s" % (reached,))
+        if min(len(self.in_pattern), len(self.in_text), len(self.in_several)) < 256:
             missing.append("byte values")
         if min(self.sides.values()) == 0 or self.failed_verification == 0:
             missing.append("a length of text, or a failed verification")

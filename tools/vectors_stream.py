@@ -27,6 +27,10 @@ Operations, their arguments, a and b, and what the digest is of:
      9 width       text pattern, u8 k, u8 method; bits that the fields need, 0
     10 exact       text pattern; 1 if a candidate of method 5 matches
                    without being verified, else 0; 0
+    11 several     text handed, u8 k, text, u32 places of the positions' list
+                   found, looks; the positions' list, then the numbers' list
+What is handed to 11 has u32 places of the list of pattern numbers, u8 count,
+that many u64 lengths, and then the bytes of the patterns.
 The calls 2 to 6 work on one search, at first the blank one.  Place i of a list
 holds (i * 2654435761 + 12345) % 2^32 before the call, byte i of a buffer
 (i * 37 + 11) % 256.  A digest starts at 0 and takes in a byte as
@@ -36,10 +40,15 @@ as the bytes that hand has.
 
 import functools
 import struct
+from collections import namedtuple
 
 import reference as ref
 
-WHOLE, OPEN, FEED, SET_METHOD, SAVE, LOAD, HAND, REPORT, WIDTH, EXACT = range(1, 11)
+WHOLE, OPEN, FEED, SET_METHOD, SAVE, LOAD, HAND, REPORT, WIDTH, EXACT, SEVERAL = range(1, 12)
+
+# Several patterns: the places of the list of their numbers, their lengths, and
+# their bytes.
+Handed = namedtuple("Handed", "places lengths data")
 
 # --- Texts --------------------------------------------------------------------
 
@@ -178,6 +187,20 @@ class Stream:
         pattern = as_text(pattern)
         return self.case(EXACT, pattern.form, 0, int(ref.heap_is_exact(pattern.value)))
 
+    def several(self, handed, k, text, places):
+        text = as_text(text)
+        positions = list(fresh_places(places))
+        numbers = list(fresh_places(handed.places))
+        number, found, looks = ref.several(
+            handed.data, handed.lengths, k, text.value, positions, numbers
+        )
+        count = len(handed.lengths)
+        front = struct.pack("<IB%dQ" % count, handed.places, count, *handed.lengths)
+        arguments = literal(front + handed.data).form + bytes([k]) + text.form
+        arguments += struct.pack("<I", places)
+        digested = list_bytes(positions) + list_bytes(numbers)
+        return self.case(SEVERAL, arguments, number, found, looks, digested)
+
 
 # --- Reading --------------------------------------------------------------------
 
@@ -199,6 +222,7 @@ ARGUMENTS = {
     REPORT: (("text", 65537),),
     WIDTH: (("text", 64), ("number", 1), ("number", 1)),
     EXACT: (("text", 64),),
+    SEVERAL: (("handed", 1024), ("number", 1), ("text", 65537), ("places", 65537)),
 }
 
 
@@ -239,6 +263,12 @@ class Reader:
             x = (x * 1103515245 + 12345) % 2**31
             made.append(letters[i % len(letters) if form == 1 else (x >> 16) % len(letters)])
         return Text(b"", bytes(made))
+
+    def handed(self, longest):
+        front = Reader(self.text(longest).value)
+        places, count = front.limited(4, 65537), front.limited(1, 16)
+        lengths = [front.number(8) for _ in range(count)]
+        return Handed(places, lengths, front.data[front.at :])
 
 
 def read_cases(data):

@@ -1,2 +1,3 @@
 mod Members
 pub mod Refusing
+pub mod Counting

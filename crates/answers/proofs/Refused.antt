@@ -1,11 +1,12 @@
 -- What is said on a refusal, and what where nothing is refused.
 use mathlib.Core.Path.{_≡_, refl, sym, ap, _∙_}
+use mathlib.Core.Bool.{false}
 use Prim.Native.Nat.{ℕ, _<_}
 use native.Mathlib.Omega.{arith}
-use lib.Dec.{lit<}
+use lib.Dec.{eqb, lit<}
 use borrow.Author.Tests.{eq-eqb, ne-eqb}
 use Rattle.answers.specs.declared.Refusal.{Refusal}
-use Rattle.answers.specs.declared.Refusal.the-variants.{PatternLength, ToleranceTooLarge, UnknownMethod, ToleranceNotTaken, FieldsTooWide, TextTooLong, TooFewPlaces, TotalTooLarge, Malformed, BufferTooShort, BadRequest}
+use Rattle.answers.specs.declared.Refusal.the-variants.{PatternLength, ToleranceTooLarge, UnknownMethod, ToleranceNotTaken, FieldsTooWide, TextTooLong, TooFewPlaces, TotalTooLarge, Malformed, BufferTooShort, BadRequest, PatternSet}
 use Rattle.answers.specs.declared.Admission.{Admission}
 use Rattle.answers.specs.declared.Admission.the-variants.{Refused}
 use Rattle.answers.specs.Numbers.{numberOf, admissionNumber, unlessRefused}
@@ -22,6 +23,7 @@ number-positive TotalTooLarge = lit< tt
 number-positive Malformed = lit< tt
 number-positive BufferTooShort = lit< tt
 number-positive BadRequest = lit< tt
+number-positive PatternSet = lit< tt
 
 -- and every number has one or two digits
 pub number-small : (refusal : Refusal) → numberOf refusal < 100
@@ -36,6 +38,7 @@ number-small TotalTooLarge = lit< tt
 number-small Malformed = lit< tt
 number-small BufferTooShort = lit< tt
 number-small BadRequest = lit< tt
+number-small PatternSet = lit< tt
 
 -- what is said on a refusal, and what where nothing is refused
 pub on-refusal : {A : Type 0} (refusal : Refusal) (number : ℕ) (accepted refused : A) → numberOf refusal ≡ number → refused ≡ unlessRefused number accepted refused
@@ -54,3 +57,16 @@ module _ (first later : ℕ) where
 
   pub tested-later : first ≡ 0 → later ≡ unlessRefused first later first
   tested-later none = on-accepted first later first none
+
+-- ---- by the number that a call gave
+
+-- A call was refused: its number is not 0
+abbrev pub IsRefused : ℕ → Type 0
+IsRefused number = number ≡ 0 → ⊥
+
+-- the test of a contract's number, by the number that the call gave
+pub is-zero : {said number : ℕ} → said ≡ number → said ≡ 0 → number ≡ 0
+is-zero same ok = sym same ∙ ok
+
+pub not-zero : {said number : ℕ} → said ≡ number → IsRefused said → eqb number 0 ≡ false
+not-zero {number = number} same refusal = ne-eqb number 0 (λ e. refusal (same ∙ e))

@@ -1,9 +1,9 @@
--- The numbers of document 01, "When a call says no", for the refusals that the code names.
+-- The numbers of document 01, "When a call says no", and from 12 on of document 02, for the refusals that the code names.
 use mathlib.Core.Bool.{cond}
 use Prim.Native.Nat.{ℕ}
 use lib.Dec.{eqb}
 use Rattle.answers.specs.declared.Refusal.{Refusal}
-use Rattle.answers.specs.declared.Refusal.the-variants.{PatternLength, ToleranceTooLarge, UnknownMethod, ToleranceNotTaken, FieldsTooWide, TextTooLong, TooFewPlaces, TotalTooLarge, Malformed, BufferTooShort, BadRequest}
+use Rattle.answers.specs.declared.Refusal.the-variants.{PatternLength, ToleranceTooLarge, UnknownMethod, ToleranceNotTaken, FieldsTooWide, TextTooLong, TooFewPlaces, TotalTooLarge, Malformed, BufferTooShort, BadRequest, PatternSet}
 use Rattle.answers.specs.declared.Admission.{Admission}
 use Rattle.answers.specs.declared.Admission.the-variants.{Accepted, Refused}
 
@@ -19,6 +19,7 @@ numberOf TotalTooLarge = 8
 numberOf Malformed = 9
 numberOf BufferTooShort = 10
 numberOf BadRequest = 11
+numberOf PatternSet = 12
 
 -- 0 where nothing is refused
 abbrev pub admissionNumber : Admission → ℕ

@@ -1,9 +1,10 @@
-// What the calls answer: why a call is refused, the number that says so, and the values of an answer. Document 01, "When a call says no".
+// What the calls answer: why a call is refused, the number that says so, and the values of an answer. Document 01, "When a call says no"; from 12
+// on the numbers of document 02, which join that table.
 
 ghost use mathlib.Core.Path.{_≡_};
 ghost use Rattle.answers.specs.Numbers.{numberOf};
 
-// Why a call is refused, in the order of document 01's table; specs/ gives each case its number.
+// Why a call is refused, in the order of the table; specs/ gives each case its number.
 pub enum Refusal {
     PatternLength,
     ToleranceTooLarge,
@@ -16,9 +17,10 @@ pub enum Refusal {
     Malformed,
     BufferTooShort,
     BadRequest,
+    PatternSet,
 }
 
-// The number that document 01 gives a refusal.
+// The number that the table gives a refusal.
 pub fn number_of(refusal: Refusal) -> usize
     ensures { λ r. ⌜ r ≡ numberOf refusal ⌝ }
 {
@@ -34,6 +36,7 @@ pub fn number_of(refusal: Refusal) -> usize
         Refusal::Malformed => 9,
         Refusal::BufferTooShort => 10,
         Refusal::BadRequest => 11,
+        Refusal::PatternSet => 12,
     }
 }
 

@@ -2,7 +2,8 @@
 -- condition by the law of its own list, so that a new test changes the laws of the list that it stands in.
 use mathlib.Core.Path.{_≡_, refl, sym, ap, _∙_}
 use mathlib.Core.Bool.{Bool, true, false, cond, _&&_, _||_, true≢false}
-use mathlib.Core.List.{List, [], _∷_, _++_, append-assoc}
+use mathlib.Core.List.{List, [], _∷_, _++_, map, append-assoc, List·Memᴰ, List·Memᴰ·head, List·Memᴰ·tail, List·Memᴰ·cases-cons}
+use mathlib.Core.Logic.{⊎-elim}
 use Prim.Native.Nat.{ℕ, zero, suc, _+_, _≤_, _<_}
 use native.Mathlib.Omega.{arith}
 use lib.Dec.{leb, ltb, eqb, eqb·suc-zero}
@@ -83,6 +84,19 @@ unfolding given
 given-small ts none = omega arith
 given-small ts (next {n = n} {b = true} row more) = ltb-true n 100 (and-true (ltb 0 n) (ltb n 100) row .1)
 given-small ts (next {b = false} {ts = rest} row more) = given-small rest more
+
+-- the number given is that of one of the tests, or 0
+pub given-among : (ts : List Test) → List·Memᴰ (given ts) (0 ∷ map (λ t. t .number) ts)
+unfolding given
+given-among [] = List·Memᴰ·head refl
+given-among (t ∷ ts) = case (t .applies) (given-among ts)
+  where
+    later : List·Memᴰ (given ts) (0 ∷ map (λ t. t .number) ts) → List·Memᴰ (given ts) (0 ∷ t .number ∷ map (λ t. t .number) ts)
+    later mem = ⊎-elim (λ (q : given ts ≡ 0). List·Memᴰ·head q) (λ more. List·Memᴰ·tail (List·Memᴰ·tail more)) (List·Memᴰ·cases-cons mem)
+
+    case : (b : Bool) → List·Memᴰ (given ts) (0 ∷ map (λ t. t .number) ts) → List·Memᴰ (cond b (t .number) (given ts)) (0 ∷ t .number ∷ map (λ t. t .number) ts)
+    case true mem = List·Memᴰ·tail (List·Memᴰ·head refl)
+    case false mem = later mem
 
 -- of one test: its condition does not hold
 pub given-one : {n : ℕ} {b : Bool} → Numbered (test n b ∷ []) → given (test n b ∷ []) ≡ 0 → b ≡ false
@@ -237,11 +251,11 @@ method-changed P k method newMethod old new =
 
 -- ---- 6, 7 and 8
 
-text-numbered : (bytes : ℕ) → Numbered (textTests bytes)
+pub text-numbered : (bytes : ℕ) → Numbered (textTests bytes)
 unfolding textTests
 text-numbered bytes = next refl none
 
-text-taken : (bytes : ℕ) → given (textTests bytes) ≡ 0 → bytes ≤ 65536
+pub text-taken : (bytes : ℕ) → given (textTests bytes) ≡ 0 → bytes ≤ 65536
 unfolding textTests
 text-taken bytes e = ltb-false 65536 bytes (given-one (text-numbered bytes) e)
 

@@ -5,12 +5,13 @@ use mathlib.Core.List.{List, [], _∷_}
 use Prim.Native.Nat.{ℕ, zero, suc, _+_, _-_, _≤_, _<_}
 use native.Mathlib.Nat.{add-zero, add-suc, suc-add, le-trans, le-refl}
 use native.Mathlib.Omega.{arith}
-use lib.ListN.{length, take, drop, length-take, length-drop}
+use lib.ListN.{length, take, drop}
 use lib.Seq.{take-take, drop-drop}
 use borrow.Author.Tests.{lt-leb}
-use Rattle.jumbled.specs.Match.{Bytes, cc, excess, matches, window, starts, select, positions}
+use Rattle.jumbled.specs.Match.{Bytes, cc, excess, matches, window, starts, select}
 use Rattle.jumbled.specs.Scan.{Scanned, backward, Judged, forward}
 use Rattle.jumbled.proofs.Counts.{bytes-take, bytes-drop, cc-nil, cc-take, cc-drop, excess-mono}
+use Rattle.jumbled.proofs.Windows.{window-whole}
 
 -- ---- parts of windows
 
@@ -36,7 +37,7 @@ part-excess P X m j d l =
 
 -- every window start's window has m bytes
 window-length : (m : ℕ) (T : List ℕ) (s : ℕ) → s < starts m T → length (window m T s) ≡ m
-window-length m T s h = omega (arith, length-take m (drop s T), length-drop s T)
+window-length m T s h = window-whole m T s (omega arith)
 
 -- ---- the theorems
 

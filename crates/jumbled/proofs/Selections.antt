@@ -1,14 +1,16 @@
--- Laws of `select`: a range cut in two, tests that agree, tests that nothing passes, and how many pass; and laws of `anyOf`.
-use mathlib.Core.Path.{_≡_, refl, ap, ap₂, _∙_}
-use mathlib.Core.Bool.{Bool, true, false, cond, _||_}
+-- Laws of `select`: a range cut in two, tests that agree, tests that nothing passes, and how many pass; laws of `anyOf`, and lengths that are all alike.
+use mathlib.Core.Path.{_≡_, refl, sym, ap, ap₂, _∙_}
+use mathlib.Core.Bool.{Bool, true, false, cond, not, _||_}
 use mathlib.Core.List.{List, [], _∷_, _++_}
 use mathlib.Core.Logic.{⊎-elim}
-use Prim.Native.Nat.{ℕ, zero, suc, _+_, _≤_, _<_}
-use native.Mathlib.Nat.{add-zero, zero-add, add-suc, suc-add}
+use Prim.Native.Nat.{ℕ, zero, suc, _+_, _*_, _≤_, _<_}
+use native.Mathlib.Nat.{add-zero, zero-add, add-suc, suc-add, zero-mul, suc-mul}
 use native.Mathlib.Omega.{arith}
+use lib.Dec.{eqb}
 use lib.ListN.{length, getD}
+use borrow.Author.Tests.{eqb-true, not-false}
 use Rattle.jumbled.specs.Match.{select}
-use Rattle.jumbled.specs.Refusals.{anyOf}
+use Rattle.jumbled.specs.Refusals.{anyOf, total}
 use Rattle.jumbled.proofs.Sums.{below-or-not}
 use Rattle.jumbled.proofs.Admission.{or-false}
 
@@ -82,3 +84,22 @@ module _ (passes : ℕ → Bool) where
   pub none-next : (l : List ℕ) (i : ℕ) → NoneBefore l i → passes (getD l i 0) ≡ false → NoneBefore l (i + 1)
   none-next l i before here j h =
       ⊎-elim (before j) (λ (least : i ≤ j). let same : i ≡ j = omega arith in rw (← same) here) (below-or-not j i)
+
+-- ---- lengths that are all m
+
+abbrev pub Alike : ℕ → List ℕ → Type 0
+Alike m lengths = anyOf (λ x. not (eqb x m)) lengths ≡ false
+
+module _ (m : ℕ) where
+  pub first-alike : (x : ℕ) (lengths : List ℕ) → Alike m (x ∷ lengths) → (x ≡ m) × Alike m lengths
+  unfolding anyOf
+  first-alike x lengths e =
+      let both = or-false (not (eqb x m)) (anyOf (λ y. not (eqb y m)) lengths) e in
+      (eqb-true x m (not-false (eqb x m) (both .0)), both .1)
+
+  pub total-alike : (lengths : List ℕ) → Alike m lengths → total lengths ≡ length lengths * m
+  unfolding total
+  total-alike [] e = sym (zero-mul m)
+  total-alike (x ∷ lengths) e =
+      let both = first-alike x lengths e in
+      omega (arith, both .0, total-alike lengths (both .1), suc-mul (length lengths) m)

@@ -1,12 +1,13 @@
--- A window by its last byte, and by its first.
+-- A window's length and bytes; a window by its last byte, and by its first.
 use mathlib.Core.Path.{_≡_, sym, ap, _∙_}
 use mathlib.Core.List.{List, [], _∷_, _++_}
 use Prim.Native.Nat.{ℕ, suc, _+_, _-_, _≤_}
 use native.Mathlib.Numerals.{add-one}
 use native.Mathlib.Omega.{arith}
-use lib.ListN.{length, getD, take, drop, length-drop}
+use lib.ListN.{length, getD, take, drop, length-take, length-drop}
 use lib.Seq.{take-suc, drop-cons, getD-drop}
-use Rattle.jumbled.specs.Match.{window, windowPrefix}
+use Rattle.jumbled.specs.Match.{Bytes, window, windowPrefix}
+use Rattle.jumbled.proofs.Counts.{bytes-take, bytes-drop}
 
 -- a window as a part of the text from its start to its end
 pub window-part : (m : ℕ) (T : List ℕ) (s : ℕ) → take (s + m - s) (drop s T) ≡ window m T s
@@ -14,6 +15,12 @@ window-part m T s = ap (λ (n : ℕ). take n (drop s T)) same
   where
     same : s + m - s ≡ m
     same = omega arith
+
+pub window-whole : (m : ℕ) (T : List ℕ) (s : ℕ) → s + m ≤ length T → length (window m T s) ≡ m
+window-whole m T s h = omega (arith, length-take m (drop s T), length-drop s T)
+
+pub window-bytes : (m : ℕ) (T : List ℕ) (s : ℕ) → Bytes T → Bytes (window m T s)
+window-bytes m T s h = bytes-take m (drop s T) (bytes-drop s T h)
 
 module _ (m : ℕ) (T : List ℕ) (s : ℕ) (some : 1 ≤ m) (whole : s + m ≤ length T) where
   one-more : m ≡ suc (m - 1)

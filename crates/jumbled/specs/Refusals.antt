@@ -1,4 +1,4 @@
--- When a call says no: document 01, the section of that name. Numbers are those of its table; 0 says that nothing is refused.
+-- When a call says no: document 01, the section of that name; document 02's numbers, from 12 on, join its table. 0 says that nothing is refused.
 -- Each condition stands once, and each call's tests are put together from them, in its order.
 use Prim.Native.Nat.{ℕ, _+_, _-_, _*_, min}
 use mathlib.Core.Bool.{Bool, false, cond, not, _&&_, _||_}
@@ -52,17 +52,19 @@ badLength m = eqb m 0 || ltb 64 m
 unfoldable pub lengthTests : ℕ → List Test
 lengthTests m = test 1 (badLength m) ∷ []
 
--- 1, of several patterns of these lengths: of any of them
+-- 1, of several patterns of these lengths (document 02, T-01): of any of them
 unfoldable pub eachLengthTests : List ℕ → List Test
 eachLengthTests lengths = test 1 (anyOf badLength lengths) ∷ []
 
--- 12, of several patterns of these lengths in so many bytes: no pattern, more than eight, lengths that differ from the first one's, or other bytes
--- than theirs
+-- Patterns of these lengths in so many bytes can't be searched together: there is none, or more than eight, or one whose length is not the first
+-- one's, or the lengths don't add up to the bytes
+abbrev pub badSet : (lengths : List ℕ) (bytes : ℕ) → Bool
+badSet lengths bytes =
+    eqb (length lengths) 0 || ltb 8 (length lengths) || anyOf (λ m. not (eqb m (getD lengths 0 0))) lengths || not (eqb (total lengths) bytes)
+
+-- 12, of several patterns (document 02, T-01)
 unfoldable pub setTests : (lengths : List ℕ) (bytes : ℕ) → List Test
-setTests lengths bytes =
-    test 12
-    (eqb (length lengths) 0 || ltb 8 (length lengths) || anyOf (λ m. not (eqb m (getD lengths 0 0))) lengths || not (eqb (total lengths) bytes))
-    ∷ []
+setTests lengths bytes = test 12 (badSet lengths bytes) ∷ []
 
 -- 2, of k for a pattern of m bytes
 unfoldable pub toleranceTests : ℕ → ℕ → List Test
@@ -80,19 +82,23 @@ exactTests k method = test 4 (ltb 0 k && exactOnly method) ∷ []
 unfoldable pub widthTests : List ℕ → ℕ → ℕ → List Test
 widthTests P k method = test 5 (ltb 64 (bits P (layoutOf k method))) ∷ []
 
--- 6, of a text or a chunk of so many bytes
-unfoldable pub textTests : ℕ → List Test
-textTests bytes = test 6 (ltb 65536 bytes) ∷ []
+-- 6, of so many bytes, where `longest` are the most
+abbrev pub longTests : (longest bytes : ℕ) → List Test
+longTests longest bytes = test 6 (ltb longest bytes) ∷ []
 
--- 6, of a program's input of so many bytes
+-- of a text or a chunk
+unfoldable pub textTests : ℕ → List Test
+textTests bytes = longTests 65536 bytes
+
+-- and of a program's input
 unfoldable pub inputTests : ℕ → List Test
-inputTests bytes = test 6 (ltb 16384 bytes) ∷ []
+inputTests bytes = longTests 16384 bytes
 
 -- 7, of a text or a chunk of so many bytes and a list of so many places
 unfoldable pub placeTests : (bytes places : ℕ) → List Test
 placeTests bytes places = test 7 (ltb places bytes) ∷ []
 
--- 7, of a text of so many bytes, so many patterns, and two lists
+-- 7, of a text of so many bytes, so many patterns, and two lists (document 02, T-01)
 unfoldable pub pairPlaceTests : (bytes patterns positions numbers : ℕ) → List Test
 pairPlaceTests bytes patterns positions numbers = test 7 (ltb positions (bytes * patterns) || ltb numbers (bytes * patterns)) ∷ []
 
@@ -138,7 +144,7 @@ sizeTests bytes places = textTests bytes ++ placeTests bytes places
 unfoldable pub wholeTests : List ℕ → ℕ → ℕ → (bytes places : ℕ) → List Test
 wholeTests P k method bytes places = patternTests P k method ++ sizeTests bytes places
 
--- Several patterns and k: 1 for every pattern, 12, 2
+-- Several patterns and k (document 02, T-01): 1 for every pattern, 12, 2
 unfoldable pub severalPatternTests : (lengths : List ℕ) (patternBytes k : ℕ) → List Test
 severalPatternTests lengths patternBytes k = eachLengthTests lengths ++ (setTests lengths patternBytes ++ toleranceTests (getD lengths 0 0) k)
 
@@ -146,7 +152,7 @@ severalPatternTests lengths patternBytes k = eachLengthTests lengths ++ (setTest
 unfoldable pub severalSizeTests : (bytes patterns positions numbers : ℕ) → List Test
 severalSizeTests bytes patterns positions numbers = textTests bytes ++ pairPlaceTests bytes patterns positions numbers
 
--- Several patterns in one pass: 1, 12, 2, 6, 7
+-- Several patterns in one pass (document 02, T-01): 1, 12, 2, 6, 7
 unfoldable pub severalTests : (lengths : List ℕ) (patternBytes k bytes positions numbers : ℕ) → List Test
 severalTests lengths patternBytes k bytes positions numbers =
     severalPatternTests lengths patternBytes k ++ severalSizeTests bytes (length lengths) positions numbers

@@ -5,8 +5,8 @@ use Prim.Native.Nat.{ℕ, suc, _+_, _≤_, _<_}
 use native.Mathlib.Nat.{add-zero, zero-add, add-assoc}
 use native.Mathlib.Omega.{arith}
 use lib.ListN.{length, getD, take, drop, set, length-append, length-take, length-drop, take-append-drop}
-use lib.Seq.{drop-cons, set-at, take-at, drop-at, drop-drop}
-use Rattle.lent.specs.Placed.{placed, shifted}
+use lib.Seq.{drop-cons, set-at, take-at, drop-at, drop-drop, take-append-seam, drop-append-seam}
+use Rattle.lent.specs.Placed.{placed, shifted, FirstPlaces}
 
 regroup : (a b c d : List ℕ) → (a ++ b) ++ (c ++ d) ≡ a ++ ((b ++ c) ++ d)
 regroup a b c d = simp append-assoc
@@ -89,3 +89,21 @@ pub shifted-zero : (ps : List ℕ) → shifted 0 ps ≡ ps
 unfolding shifted
 shifted-zero [] = refl
 shifted-zero (p ∷ ps) = ap₂ (λ (q : ℕ) (l : List ℕ). q ∷ l) (zero-add p) (shifted-zero ps)
+
+-- ---- the first places
+
+pub take-placed-first : (list numbers : List ℕ) → take (length numbers) (placed list 0 numbers) ≡ numbers
+unfolding placed
+take-placed-first list numbers = take-append-seam numbers (drop (0 + length numbers) list)
+
+later-places : (before numbers : List ℕ) → drop (length numbers) (placed before 0 numbers) ≡ drop (length numbers) before
+unfolding placed
+later-places before numbers =
+    drop-append-seam numbers (drop (0 + length numbers) before) ∙ ap (λ (n : ℕ). drop n before) (zero-add (length numbers))
+
+pub first-places : {before after numbers : List ℕ} {count : ℕ} → after ≡ placed before 0 numbers → count ≡ length numbers → FirstPlaces before after count numbers
+first-places {before} {after} {numbers} {count} filled counted =
+    record {
+      first = ap₂ (λ (n : ℕ) (l : List ℕ). take n l) counted filled ∙ take-placed-first before numbers;
+      rest = ap₂ (λ (n : ℕ) (l : List ℕ). drop n l) counted filled ∙ later-places before numbers ∙ ap (λ (n : ℕ). drop n before) (sym counted);
+    }

@@ -6,13 +6,13 @@ use Prim.Native.Nat.{ℕ, suc, _+_, _-_, _^_, _≤_, _<_}
 use native.Mathlib.Omega.{arith}
 use lib.Bits.{bitAnd}
 use lib.Dec.{eqb}
-use lib.ListN.{length, getD, set, drop, length-take, length-drop, drop-of-length-le}
+use lib.ListN.{length, getD, set, drop, length-drop, drop-of-length-le}
 use lib.Seq.{drop-cons, getD-take, getD-drop}
 use borrow.Author.Tests.{eq-eqb, ne-eqb, not-true, not-false}
 use Rattle.jumbled.specs.Match.{Bytes, window}
 use Rattle.jumbled.specs.Scan.{singles, pairs}
 use Rattle.jumbled.specs.Fields.{fieldCount, widthOf, valueOf, bits, overflows}
-use Rattle.jumbled.proofs.Counts.{bytes-take, bytes-drop}
+use Rattle.jumbled.proofs.Windows.{window-whole, window-bytes}
 use Rattle.table_packed.specs.Word.{Packed}
 use Rattle.table_packed.specs.declared.Word.{Word}
 use Rattle.table_packed.proofs.Packs.{ValuesFit as Fits}
@@ -25,12 +25,6 @@ use Rattle.loop_backward.proofs.Reading.{Group, one-byte, two-bytes, le
 -- The part from p on of the window at s
 abbrev pub readFrom : ℕ → List ℕ → ℕ → ℕ → List ℕ
 readFrom m T s p = drop (p - s) (window m T s)
-
-window-whole : (m : ℕ) (T : List ℕ) (s : ℕ) → s + m ≤ length T → length (window m T s) ≡ m
-window-whole m T s h = omega (arith, length-take m (drop s T), length-drop s T)
-
-window-bytes : (m : ℕ) (T : List ℕ) (s : ℕ) → Bytes T → Bytes (window m T s)
-window-bytes m T s h = bytes-take m (drop s T) (bytes-drop s T h)
 
 window-at : (m : ℕ) (T : List ℕ) (s d : ℕ) → d < m → getD (window m T s) d 0 ≡ getD T (s + d) 0
 window-at m T s d h = getD-take m (drop s T) d 0 h ∙ getD-drop s T d 0

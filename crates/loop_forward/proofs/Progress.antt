@@ -6,13 +6,13 @@ use mathlib.Core.Logic.{_⊎_, ⊎-elim}
 use Prim.Native.Nat.{ℕ, suc, _+_, _-_, _*_, _^_, _≤_, _<_}
 use native.Mathlib.Nat.{sub-self}
 use native.Mathlib.Omega.{arith}
-use lib.ListN.{length, getD, drop, set, length-take, length-drop, length-set}
+use lib.ListN.{length, getD, drop, set, length-take, length-set}
 use Rattle.jumbled.specs.Match.{Bytes, window, windowPrefix}
 use Rattle.jumbled.specs.Scan.{Result, Judged, forward}
 use Rattle.jumbled.proofs.Sums.{below-or-not}
 use Rattle.jumbled.proofs.Cuts.{_then_, forward-cut, forward-within}
 use Rattle.jumbled.proofs.Counts.{bytes-take, bytes-drop}
-use Rattle.jumbled.proofs.Windows.{window-last, window-first}
+use Rattle.jumbled.proofs.Windows.{window-whole, window-last, window-first}
 use Rattle.lent.specs.declared.Range.{Range}
 use Rattle.lent.specs.Loops.{Fitting, Listed}
 use Rattle.lent.proofs.Listing.{share, listed-none, listed-skip, listed-more, passed-none, passed-room, passed-last, passed-all}
@@ -115,8 +115,8 @@ module _ {judged : List ℕ → Judged} {m : ℕ} {T : List ℕ} {range : Range}
   pub by-first : window m T s ≡ getD T s 0 ∷ windowPrefix m T (s + 1)
   by-first = window-first m T s (turn .fitting .some) whole
 
-  pub window-whole : length (window m T s) ≡ m
-  window-whole = omega (arith, length-take m (drop s T), length-drop s T, whole)
+  pub whole-window : length (window m T s) ≡ m
+  whole-window = window-whole m T s whole
 
   pub prefix-bytes : Bytes (windowPrefix m T s)
   prefix-bytes = bytes-take (m - 1) (drop s T) (bytes-drop s T (turn .bytes))

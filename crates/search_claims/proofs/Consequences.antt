@@ -4,17 +4,15 @@ use mathlib.Core.Path.{_≡_, refl, sym, ap, ap₂, _∙_, subst}
 use mathlib.Core.List.{List, [], _∷_, _++_, List·Memᴰ}
 use mathlib.Core.Logic.{_↔_, inl}
 use Prim.Native.Nat.{ℕ, _+_, _-_, _≤_}
-use native.Mathlib.Nat.{zero-add}
 use native.Mathlib.Omega.{arith}
-use lib.ListN.{length, take, drop}
-use lib.Seq.{drop-append-seam}
+use lib.ListN.{length, take}
 use Rattle.jumbled.specs.Match.{excess, window, positions}
 use Rattle.jumbled.specs.Steps.{steps}
 use Rattle.jumbled.specs.Refusals.{given, lengthTests, patternTests, methodTests, chunkTests, feedTests, setMethodTests, saveTests, bufferTests, tailLength}
 use Rattle.jumbled.proofs.Admission.{given-later, search-fresh}
 use Rattle.jumbled.proofs.Positions as Positions
-use Rattle.lent.specs.Placed.{placed, shifted}
-use Rattle.lent.proofs.Placing.{shifted-zero}
+use Rattle.lent.specs.Placed.{placed, shifted, FirstPlaces}
+use Rattle.lent.proofs.Placing.{shifted-zero, first-places}
 use Rattle.image_form.specs.Image.{Parts, partsWith, image, saveOrder}
 use Rattle.answers.specs.declared.Answer.{Answer}
 use Rattle.answers.specs.Numbers.{admissionNumber, unlessRefused}
@@ -32,31 +30,15 @@ use Rattle.search.proofs.Handed.{handed-numbered}
 use Rattle.search_series.specs.History.{Ledger, Current, blank, holds, verdict, Event, saved, startWith, withChunk, ledgerWithMethod, ledgerReport, broughtBack, afterEvent, history}
 use Rattle.search_series.specs.Series.{KeptAs, latest, writtenImage, Run, fresh, opens, feeds, sets, saves, loads, wholes, ledgerTail, ledgerParts, ledgerSearch, Reports, Agrees, AfterCall, Right}
 use Rattle.search_series.proofs.Reports.{positions-append}
-use Rattle.search_series.proofs.Tests.{take-placed-first, pattern-stored, parts-stored, handed-stored}
-use Rattle.search_series.proofs.Contracts.{NothingListed, open-accepted, whole-accepted, feed-accepted, feed-refused, feed-keeps-search, NothingSaved, save-refused}
+use Rattle.search_series.proofs.Tests.{pattern-stored, parts-stored, handed-stored}
+use Rattle.search_whole.proofs.Contract.{NothingListed, whole-accepted}
+use Rattle.search_series.proofs.Contracts.{open-accepted, feed-accepted, feed-refused, feed-keeps-search, NothingSaved, save-refused}
 use Rattle.search_series.proofs.Theorem.{series}
 
--- Demand 1, what a refusal leaves, is Contracts.antt's `whole-refused`, `feed-refused`, `feed-keeps-search`, `set-refused`, `save-refused`,
+-- Demand 1, what a refusal leaves, is `whole-refused` of search_whole's Contract.antt, and Contracts.antt's `feed-refused`, `feed-keeps-search`, `set-refused`, `save-refused`,
 -- `open-refused` and `load-refused`; what it adds in a series stands below.
 
 -- ---- demand 2: each method lists exactly the matching positions, in rising order
-
--- The list's first places hold these numbers, and every place after them is as it was
-pub record FirstPlaces (before after : List ℕ) (count : ℕ) (numbers : List ℕ) : Type 0 where
-  pub first : take count after ≡ numbers
-  pub rest : drop count after ≡ drop count before
-
-later-places : (before numbers : List ℕ) → drop (length numbers) (placed before 0 numbers) ≡ drop (length numbers) before
-unfolding placed
-later-places before numbers =
-    drop-append-seam numbers (drop (0 + length numbers) before) ∙ ap (λ (n : ℕ). drop n before) (zero-add (length numbers))
-
-first-places : {before after numbers : List ℕ} {count : ℕ} → after ≡ placed before 0 numbers → count ≡ length numbers → FirstPlaces before after count numbers
-first-places {before} {after} {numbers} {count} filled counted =
-    record {
-      first = ap₂ (λ (n : ℕ) (l : List ℕ). take n l) counted filled ∙ take-placed-first before numbers;
-      rest = ap₂ (λ (n : ℕ) (l : List ℕ). drop n l) counted filled ∙ later-places before numbers ∙ ap (λ (n : ℕ). drop n before) (sym counted);
-    }
 
 module _ {P : List ℕ} {k method : ℕ} {T before after : List ℕ} {r : Answer} (contract : Whole P k method T before after r) (ok : answerNumber r ≡ 0) where
   -- as many first places as were found hold the listed positions,

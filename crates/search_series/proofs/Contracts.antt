@@ -1,21 +1,19 @@
 -- What the contracts of the calls say where a call is accepted and where it is refused: document 01, "A search and its calls" and the last
 -- lines of "When a call says no" (demand 1: a refusal changes nothing).
-use mathlib.Core.Path.{_≡_, sym, ap₂, _∙_}
-use mathlib.Core.Bool.{false}
+use mathlib.Core.Path.{_≡_, ap₂, _∙_}
 use mathlib.Core.List.{List, []}
 use Prim.Native.Nat.{ℕ, _-_}
-use lib.Dec.{eqb}
 use lib.ListN.{length, take}
-use borrow.Author.Tests.{ne-eqb}
 use Rattle.jumbled.specs.Match.{positions}
 use Rattle.jumbled.specs.Steps.{steps}
 use Rattle.lent.specs.Placed.{placed, shifted}
+use Rattle.lent.proofs.Placing.{take-placed-first}
 use Rattle.image_form.specs.Image.{partsWith}
 use Rattle.image_form.specs.Decode.{partsOf}
-use Rattle.answers.specs.declared.Answer.{Answer}
 use Rattle.answers.specs.Numbers.{admissionNumber}
 use Rattle.answers.specs.Answers.{answerNumber, answerFound, answerInspections, savingNumber, savingLength}
-use Rattle.search_whole.specs.Whole.{Whole}
+use Rattle.answers.proofs.Refused.{IsRefused, is-zero, not-zero}
+use Rattle.search_whole.proofs.Contract.{NothingListed}
 use Rattle.search.specs.declared.Search.{Search}
 use Rattle.search.specs.declared.SearchResult.{SearchResult}
 use Rattle.search.specs.declared.FeedResult.{FeedResult}
@@ -23,51 +21,6 @@ use Rattle.search.specs.declared.SaveResult.{SaveResult}
 use Rattle.search.specs.Searches.{patternOf, stored, blankSearch}
 use Rattle.search.specs.Calls.{Opened, Feeds, searchedText, fedParts, SetsMethod, searchWithMethod, Saves, imageOf, Loads}
 use Rattle.search_series.specs.Series.{writtenImage}
-use Rattle.search_series.proofs.Tests.{take-placed-first}
-
--- A call was refused: its number is not 0
-abbrev pub IsRefused : ℕ → Type 0
-IsRefused number = number ≡ 0 → ⊥
-
--- the test of a contract's number, by the number that the call gave
-is-zero : {said number : ℕ} → said ≡ number → said ≡ 0 → number ≡ 0
-is-zero same ok = sym same ∙ ok
-
-not-zero : {said number : ℕ} → said ≡ number → IsRefused said → eqb number 0 ≡ false
-not-zero {number = number} same refusal = ne-eqb number 0 (λ e. refusal (same ∙ e))
-
--- ---- whole search
-
--- Accepted: the listed positions stand in the list's first places, and the method's own steps list them
-pub record WholeAccepted (P : List ℕ) (k method : ℕ) (T before after : List ℕ) (r : Answer) : Type 0 where
-  pub list : after ≡ placed before 0 (positions P k T)
-  pub by-steps : steps P k method T .occurrences ≡ positions P k T
-  pub found : answerFound r ≡ length (positions P k T)
-  pub inspections : answerInspections r ≡ steps P k method T .inspections
-
--- Refused, a whole search or a feed leaves every place of the list and reports nothing
-pub record NothingListed (before after : List ℕ) (r : Answer) : Type 0 where
-  pub list : after ≡ before
-  pub found : answerFound r ≡ 0
-  pub inspections : answerInspections r ≡ 0
-
-module _ {P : List ℕ} {k method : ℕ} {T before after : List ℕ} {r : Answer} (contract : Whole P k method T before after r) where
-  pub whole-accepted : answerNumber r ≡ 0 → WholeAccepted P k method T before after r
-  whole-accepted ok =
-      record {
-        list = rw (is-zero (contract .number) ok) at (contract .list);
-        by-steps = contract .by-steps (is-zero (contract .number) ok);
-        found = rw (is-zero (contract .number) ok) at (contract .found);
-        inspections = rw (is-zero (contract .number) ok) at (contract .inspections);
-      }
-
-  pub whole-refused : IsRefused (answerNumber r) → NothingListed before after r
-  whole-refused refusal =
-      record {
-        list = rw (not-zero (contract .number) refusal) at (contract .list);
-        found = rw (not-zero (contract .number) refusal) at (contract .found);
-        inspections = rw (not-zero (contract .number) refusal) at (contract .inspections);
-      }
 
 -- ---- feed
 

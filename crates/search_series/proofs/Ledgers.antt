@@ -25,7 +25,8 @@ use Rattle.search.specs.Searches.{patternOf, stored, blankSearch}
 use Rattle.search.specs.Calls.{handedNumber, partsTests, Opened, openNumber, Feeds, feedNumber, searchedText, fedParts, SetsMethod, setMethodNumber, Saves, saveNumber, imageOf, Loads, loadNumber}
 use Rattle.search_series.specs.History.{Ledger, startWith, withChunk, ledgerWithMethod, ledgerReport}
 use Rattle.search_series.specs.Series.{writtenImage, ledgerTail, ledgerParts, ledgerSearch, Reports, Agrees}
-use Rattle.search_series.proofs.Contracts.{whole-accepted, FeedAccepted, feed-accepted, set-accepted, save-written, open-accepted, load-accepted}
+use Rattle.search_whole.proofs.Contract.{whole-accepted}
+use Rattle.search_series.proofs.Contracts.{FeedAccepted, feed-accepted, set-accepted, save-written, open-accepted, load-accepted}
 use Rattle.search_series.proofs.Reports.{positions-append, report-by-tail, tail-after}
 use Rattle.search_series.proofs.Tests.{pattern-stored, tail-stored, parts-stored, handed-stored, feed-total, set-admitted, feed-blank, set-blank, save-blank, load-parts, load-taken}
 

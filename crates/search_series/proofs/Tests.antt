@@ -4,11 +4,10 @@ use mathlib.Core.Bool.{Bool}
 use mathlib.Core.List.{List, _++_}
 use Prim.Native.Nat.{ℕ, _+_, _-_, _<_, _^_}
 use native.Mathlib.Omega.{arith}
-use lib.ListN.{length, take, drop, replicate}
+use lib.ListN.{length, replicate}
 use lib.Seq.{take-append-seam}
 use Rattle.jumbled.specs.Refusals.{given, lengthTests, tailLength, formTests, bufferTests, methodTests, patternTests, searchTests, chunkTests, feedTests, setMethodTests, saveTests, loadTests}
 use Rattle.jumbled.proofs.Admission.{given-append-none, Admitted, admitted, method-changed, chunk-taken, search-right, length-again}
-use Rattle.lent.specs.Placed.{placed}
 use Rattle.image_form.specs.Image.{Parts, partsWith, image, IsOrder, Sized}
 use Rattle.image_form.specs.Decode.{partsOf}
 use Rattle.image_form.proofs.Images.{image-taken, parts-back}
@@ -76,10 +75,6 @@ unfolding saveNumber saveTests handedTests lengthTests given
 save-blank buffer = refl
 
 -- ---- load gets an image, in whatever order
-
-pub take-placed-first : (list numbers : List ℕ) → take (length numbers) (placed list 0 numbers) ≡ numbers
-unfolding placed
-take-placed-first list numbers = take-append-seam numbers (drop (0 + length numbers) list)
 
 module _ {order : List ℕ} (o : IsOrder order) (parts : Parts) (pattern-admitted : given (patternTests (parts .pattern) (parts .k) (parts .method)) ≡ 0)
     (tail-right : length (parts .tail) ≡ tailLength (length (parts .pattern)) (parts .total)) (total-fits : parts .total < 2 ^ 32) where

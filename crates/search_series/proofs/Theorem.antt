@@ -15,7 +15,8 @@ use Rattle.search_whole.specs.Whole.{Whole}
 use Rattle.search.specs.Calls.{Opened, Feeds, SetsMethod, Saves, Loads}
 use Rattle.search_series.specs.History.{History, verdict, Event, opened, fed, methodSet, saved, loaded, searched, broughtBack, afterEvent, history}
 use Rattle.search_series.specs.Series.{KeptAs, writtenImage, Run, fresh, opens, feeds, sets, saves, loads, wholes, AfterCall, Right}
-use Rattle.search_series.proofs.Contracts.{IsRefused, feed-keeps-search, set-refused, open-refused, load-refused}
+use Rattle.answers.proofs.Refused.{IsRefused}
+use Rattle.search_series.proofs.Contracts.{feed-keeps-search, set-refused, open-refused, load-refused}
 use Rattle.search_series.proofs.Ledgers.{open-represents, feed-reports, feed-while-blank, set-while-blank, save-while-blank, load-takes, load-represents}
 use Rattle.search_series.proofs.Copies.{CopiesInvariant, none, copy-meant}
 use Rattle.search_series.proofs.Current.{RepresentsCurrent, is-blank, is-held, represents, blank-search, agrees-current, unchanged, feed-current, set-current, save-copies}

@@ -37,8 +37,8 @@ module _ (P : List ℕ) (k method : ℕ) (T list : List ℕ) where
   whole-late e = whole-number P k method T list ∙ sym (tested-later _ _ e) ∙ sym (first-chunk (length T) (length list))
 
   -- a refusal leaves everything as it was
-  pub whole-refused : (refusal : Refusal) → numberOf refusal ≡ wholeNumber P k method T list → Whole P k method T list list (Refused refusal)
-  whole-refused refusal e =
+  pub whole-refusal : (refusal : Refusal) → numberOf refusal ≡ wholeNumber P k method T list → Whole P k method T list list (Refused refusal)
+  whole-refusal refusal e =
       record {
         number = e;
         found = on-refusal refusal (wholeNumber P k method T list) (length (positions P k T)) 0 e;
@@ -47,8 +47,8 @@ module _ (P : List ℕ) (k method : ℕ) (T list : List ℕ) where
         by-steps = λ q. absurd (let positive = number-positive refusal in omega arith);
       }
 
-  pub whole-refused-early : (refusal : Refusal) → numberOf refusal ≡ given (patternTests P k method) → Whole P k method T list list (Refused refusal)
-  whole-refused-early refusal e = whole-refused refusal (whole-early refusal e)
+  pub whole-refusal-early : (refusal : Refusal) → numberOf refusal ≡ given (patternTests P k method) → Whole P k method T list list (Refused refusal)
+  whole-refusal-early refusal e = whole-refusal refusal (whole-early refusal e)
 
   pub whole-listed : Bytes P → Bytes T → given (patternTests P k method) ≡ 0 → wholeNumber P k method T list ≡ 0 → (after : List ℕ) (searchCounts : SearchCounts) → Found (steps P k method ([] ++ T)) 0 list after searchCounts
       → Whole P k method T list after (Listed (searchCounts .found) (searchCounts .inspections))

@@ -13,7 +13,7 @@ use Rattle.jumbled.specs.Match.{bit, sum}
 use Rattle.jumbled.specs.Fields.{topSet, some}
 use Rattle.jumbled.proofs.Sums.{some-at}
 use Rattle.table_packed.specs.Pack.{pack, topBit}
-use Rattle.table_packed.proofs.Packs.{pack-suc, pack-ext, pack-lt, pack-add, pack-and, pack-only, and-top, tops-test, own-top-test}
+use Rattle.table_packed.proofs.Packs.{pack-suc, pack-ext, pack-lt, pack-field, pack-add, pack-and, pack-only, and-top, tops-test, own-top-test}
 use Rattle.several_form.specs.Mcount.{topValue}
 use Rattle.several_fields.specs.Words.{fieldBits, packed}
 
@@ -36,6 +36,11 @@ pub packed-fits : (v : ℕ → ℕ) (count : ℕ) → count ≤ 8 → ((f : ℕ)
 packed-fits v count few small =
     let few-bits : sum count fieldBits ≤ 64 = omega (arith, field-at count) in
     omega (arith, pack-lt fieldBits v count small, pow-mono few-bits)
+
+-- No field carries into its neighbour: of any number of fields each holds its own number and nothing of the others'
+pub fields-apart : (v : ℕ → ℕ) (count : ℕ) → ((f : ℕ) → f < count → v f < 256) → (f : ℕ) → f < count → packed v count / 2 ^ (8 * f) % 2 ^ 8 ≡ v f
+fields-apart v count small f l =
+    ap (λ (at : ℕ). packed v count / 2 ^ at % 2 ^ 8) (sym (field-at f)) ∙ pack-field fieldBits v count small f l
 
 -- differences go field by field
 module _ (u v : ℕ → ℕ) (count : ℕ) (less : (f : ℕ) → f < count → v f ≤ u f) where

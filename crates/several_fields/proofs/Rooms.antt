@@ -3,7 +3,7 @@ use mathlib.Core.Path.{_≡_, refl, sym, ap, ap₂, _∙_}
 use mathlib.Core.Bool.{Bool, true, false, cond, not}
 use mathlib.Core.List.{List, [], _∷_, _++_}
 use mathlib.Core.Logic.{⊎-elim}
-use Prim.Native.Nat.{ℕ, _+_, _-_, _/_, _^_, _≤_, _<_}
+use Prim.Native.Nat.{ℕ, _+_, _-_, _*_, _/_, _%_, _^_, _≤_, _<_}
 use native.Mathlib.Omega.{arith}
 use lib.Bits.{bitAnd}
 use lib.Dec.{leb, eqb}
@@ -19,7 +19,7 @@ use Rattle.several_form.specs.Mcount.{topValue, acceptable, fieldAfter}
 use Rattle.several_form.proofs.Fields.{field-entered, field-given-back}
 use Rattle.several_fields.specs.declared.Fields.{Fields}
 use Rattle.several_fields.specs.Words.{fieldBits, packed, roomValue, Several, WordsOf, Taking, Giving}
-use Rattle.several_fields.proofs.Packing.{packed-fits, packed-sub, packed-below, tops-down}
+use Rattle.several_fields.proofs.Packing.{packed-fits, fields-apart, packed-sub, packed-below, tops-down}
 
 -- ---- one pattern
 
@@ -60,6 +60,17 @@ module _ {fields : Fields} (of : Several fields) where
 
   field-small : (U : List ℕ) → length U ≤ 64 → (f : ℕ) → f < of .count → fieldAfter (of .pattern f) (of .k) U < 256
   field-small U short f l = omega (arith, of .tolerance f l)
+
+  -- No field carries into its neighbour: in the window's word, and in the word of every byte, the field f holds its own pattern's number
+  module _ {U : List ℕ} {word : ℕ} {rooms : List ℕ} (words : WordsOf of U word rooms) (f : ℕ) (l : f < of .count) where
+    pub window-field : length U ≤ 64 → word / 2 ^ (8 * f) % 2 ^ 8 ≡ fieldAfter (of .pattern f) (of .k) U
+    window-field short = rw (words .window-word) (fields-apart (λ f. fieldAfter (of .pattern f) (of .k) U) (of .count) (field-small U short) f l)
+
+    pub byte-field : (c : ℕ) → c < 256 → getD rooms c 0 / 2 ^ (8 * f) % 2 ^ 8 ≡ roomValue (of .pattern f) U c
+    byte-field c is-byte =
+        ap (λ (rooms : List ℕ). getD rooms c 0 / 2 ^ (8 * f) % 2 ^ 8) (words .byte-words)
+        ∙ ap (λ (word : ℕ). word / 2 ^ (8 * f) % 2 ^ 8) (getD-tabulate 256 (roomWord U) c is-byte)
+        ∙ fields-apart (λ f. roomValue (of .pattern f) U c) (of .count) (room-small U c) f l
 
   -- what a byte adds to the window's word, or takes from it
   accepted-word : (U : List ℕ) (c : ℕ)

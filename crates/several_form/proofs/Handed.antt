@@ -1,44 +1,23 @@
 -- The patterns by their lengths, where these are all alike.
 use mathlib.Core.Path.{_≡_, refl, sym, ap, ap₂, _∙_}
-use mathlib.Core.Bool.{false, not}
 use mathlib.Core.List.{List, [], _∷_}
 use Prim.Native.Nat.{ℕ, zero, suc, _+_, _-_, _*_, _≤_, _<_}
 use native.Mathlib.Nat.{suc-mul, zero-mul, mul-le-mul-right}
 use native.Mathlib.Omega.{arith}
-use lib.Dec.{eqb}
 use lib.ListN.{length, getD, take, drop, length-take, length-drop}
 use lib.Seq.{drop-drop}
-use borrow.Author.Tests.{eqb-true, not-false}
-use Rattle.jumbled.specs.Refusals.{anyOf, total}
-use Rattle.jumbled.proofs.Admission.{or-false}
+use Rattle.jumbled.proofs.Selections.{Alike, first-alike}
 use Rattle.several_form.specs.Finds.{Together}
 use Rattle.several_form.specs.Handed.{patternsOf}
 
--- all of them are m
-abbrev pub Alike : ℕ → List ℕ → Type 0
-Alike m lengths = anyOf (λ x. not (eqb x m)) lengths ≡ false
-
 module _ (m : ℕ) where
-  first-alike : (x : ℕ) (lengths : List ℕ) → Alike m (x ∷ lengths) → (x ≡ m) × Alike m lengths
-  unfolding anyOf
-  first-alike x lengths e =
-      let both = or-false (not (eqb x m)) (anyOf (λ y. not (eqb y m)) lengths) e in
-      (eqb-true x m (not-false (eqb x m) (both .0)), both .1)
-
-  pub total-alike : (lengths : List ℕ) → Alike m lengths → total lengths ≡ length lengths * m
-  unfolding total
-  total-alike [] e = sym (zero-mul m)
-  total-alike (x ∷ lengths) e =
-      let both = first-alike x lengths e in
-      omega (arith, both .0, total-alike lengths (both .1), suc-mul (length lengths) m)
-
   -- the pattern in each place
   pub pattern-at : (lengths bytes : List ℕ) → Alike m lengths → (f : ℕ) → f < length lengths → getD (patternsOf lengths bytes) f [] ≡ take m (drop (f * m) bytes)
   unfolding patternsOf
   pattern-at [] bytes e f h = absurd (omega arith)
-  pattern-at (x ∷ lengths) bytes e zero h = ap₂ (λ (n i : ℕ). take n (drop i bytes)) (first-alike x lengths e .0) (sym (zero-mul m))
+  pattern-at (x ∷ lengths) bytes e zero h = ap₂ (λ (n i : ℕ). take n (drop i bytes)) (first-alike m x lengths e .0) (sym (zero-mul m))
   pattern-at (x ∷ lengths) bytes e (suc f) h =
-      let both = first-alike x lengths e in
+      let both = first-alike m x lengths e in
       let next : x + f * m ≡ suc f * m = omega (arith, both .0, suc-mul f m) in
       pattern-at lengths (drop x bytes) (both .1) f (omega arith)
       ∙ ap (take m) (drop-drop (f * m) x bytes)

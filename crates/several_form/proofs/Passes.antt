@@ -4,11 +4,11 @@ use mathlib.Core.List.{List, [], _∷_, _++_, append-nil, append-assoc}
 use Prim.Native.Nat.{ℕ, zero, suc, _+_, _-_, _≤_, _<_}
 use native.Mathlib.Numerals.{add-one}
 use native.Mathlib.Omega.{arith}
-use lib.ListN.{length, getD, take, drop, length-take, length-drop}
-use Rattle.jumbled.specs.Match.{Bytes, matches, window, windowPrefix, starts}
+use lib.ListN.{length, getD, take, drop}
+use Rattle.jumbled.specs.Match.{Bytes, window, windowPrefix, starts}
 use Rattle.jumbled.proofs.Counts.{bytes-nil, bytes-head, bytes-tail, bytes-take, bytes-drop, bytes-append, bytes-front}
 use Rattle.jumbled.proofs.Selections.{select-same}
-use Rattle.jumbled.proofs.Windows.{window-last, window-first}
+use Rattle.jumbled.proofs.Windows.{window-whole, window-bytes, window-last, window-first}
 use Rattle.several_form.specs.Finds.{Find, numbered, commonLength, Together, beside, collect, matching, finds}
 use Rattle.several_form.specs.Mcount.{startField, fieldAfter, entered, givenBack, allEntered, reached, pass, mcount}
 use Rattle.several_form.proofs.Fields.{field-start, field-entered, field-given-back, field-reached}
@@ -67,7 +67,7 @@ module _ {Ps : List (List ℕ)} {m : ℕ} (together : Together Ps m) (k : ℕ) w
     unfolding pass collect
     pass-finds s zero cost fields inside tracks = refl
     pass-finds s (suc left) cost fields inside tracks =
-        ap₂ (λ (numbers : List ℕ) (rest : List Find). beside s numbers ++ rest) (reached-matching full window-bytes window-whole)
+        ap₂ (λ (numbers : List ℕ) (rest : List Find). beside s numbers ++ rest) (reached-matching full (window-bytes m T s bytes) (window-whole m T s whole))
         (pass-finds (suc s) left _ _ (omega arith) after)
       where
         whole : s + m ≤ length T
@@ -75,12 +75,6 @@ module _ {Ps : List (List ℕ)} {m : ℕ} (together : Together Ps m) (k : ℕ) w
 
         prefix-bytes : (i : ℕ) → Bytes (windowPrefix m T i)
         prefix-bytes i = bytes-take (m - 1) (drop i T) (bytes-drop i T bytes)
-
-        window-bytes : Bytes (window m T s)
-        window-bytes = bytes-take m (drop s T) (bytes-drop s T bytes)
-
-        window-whole : length (window m T s) ≡ m
-        window-whole = omega (arith, length-take m (drop s T), length-drop s T)
 
         full : Tracks Ps k (window m T s) (entered Ps (windowPrefix m T s) (getD T (s + m - 1) 0) fields)
         full =

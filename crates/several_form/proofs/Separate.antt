@@ -27,6 +27,18 @@ unfolding sideBySide partIn
 read-back [] = refl
 read-back (f ∷ F) = ap (λ (G : List Find). f ∷ G) (read-back F)
 
+-- One part of the finds: as many as these, and put one after the other with them
+module _ (part : Find → ℕ) where
+  pub part-append : (F G : List Find) → partIn part (F ++ G) ≡ partIn part F ++ partIn part G
+  unfolding partIn
+  part-append [] G = refl
+  part-append (f ∷ F) G = ap (λ (l : List ℕ). part f ∷ l) (part-append F G)
+
+  pub length-part : (F : List Find) → length (partIn part F) ≡ length F
+  unfolding partIn
+  length-part [] = refl
+  length-part (f ∷ F) = ap suc (length-part F)
+
 -- ---- one window start more
 
 pub collect-more : (at : ℕ → List ℕ) (s n : ℕ) → collect at s (n + 1) ≡ collect at s n ++ beside (s + n) (at (s + n))
@@ -159,39 +171,45 @@ module _ (test : ℕ → ℕ → Bool) (count : ℕ) where
 
 -- ---- the order
 
--- The finds go strictly up, by position and at one position by number, and none is before position p and number q
-pub data Ordered : ℕ → ℕ → List Find → Type 0 where
-  none : {p q : ℕ} → Ordered p q []
-  next : {p q : ℕ} {f : Find} {more : List Find} → (p < f .position) ⊎ ((p ≡ f .position) × (q ≤ f .number)) → Ordered (f .position) (suc (f .number)) more
-      → Ordered p q (f ∷ more)
+-- A find at the position p with the number q or a higher one, or at a later position
+abbrev pub NotBefore : ℕ → ℕ → Find → Type 0
+NotBefore p q f = (p < f .position) ⊎ ((p ≡ f .position) × (q ≤ f .number))
+
+-- The finds go strictly up, by position and at one position by number, none is before position p and number q, and every number is 1 to `most`
+pub data Ordered (most : ℕ) : ℕ → ℕ → List Find → Type 0 where
+  none : {p q : ℕ} → Ordered most p q []
+  next : {p q : ℕ} {f : Find} {more : List Find} → NotBefore p q f → 1 ≤ f .number → f .number ≤ most → Ordered most (f .position) (suc (f .number)) more
+      → Ordered most p q (f ∷ more)
 
 -- an earlier position, whatever the number
-earlier : {p q : ℕ} {F : List Find} (p′ q′ : ℕ) → p′ < p → Ordered p q F → Ordered p′ q′ F
+earlier : {most p q : ℕ} {F : List Find} (p′ q′ : ℕ) → p′ < p → Ordered most p q F → Ordered most p′ q′ F
 earlier p′ q′ l none = none
-earlier {p} {q} p′ q′ l (next {f = f} at more) =
-    next {f = f} (inl (⊎-elim (λ (h : p < f .position). lt-trans l h) (λ (h : (p ≡ f .position) × (q ≤ f .number)). rw (h .0) at l) at)) more
+earlier {p = p} {q = q} p′ q′ l (next {f = f} at least most more) =
+    next {f = f} (inl (⊎-elim (λ (h : p < f .position). lt-trans l h) (λ (h : (p ≡ f .position) × (q ≤ f .number)). rw (h .0) at l) at)) least most more
 
 -- at the same position no higher a number
-lower : {p q : ℕ} {F : List Find} (q′ : ℕ) → q′ ≤ q → Ordered p q F → Ordered p q′ F
+lower : {most p q : ℕ} {F : List Find} (q′ : ℕ) → q′ ≤ q → Ordered most p q F → Ordered most p q′ F
 lower q′ l none = none
-lower {p} {q} q′ l (next {f = f} at more) =
-    next {f = f} (⊎-elim (λ h. inl h) (λ (h : (p ≡ f .position) × (q ≤ f .number)). inr (h .0, le-trans l (h .1))) at) more
+lower {p = p} {q = q} q′ l (next {f = f} at least most more) =
+    next {f = f} (⊎-elim (λ h. inl h) (λ (h : (p ≡ f .position) × (q ≤ f .number)). inr (h .0, le-trans l (h .1))) at) least most more
 
-ordered-beside : (s : ℕ) (test : ℕ → Bool) (from count : ℕ) (rest : List Find) → Ordered (suc s) 0 rest → Ordered s from (beside s (select test from count) ++ rest)
+ordered-beside : (most s : ℕ) (test : ℕ → Bool) (from count : ℕ) → 1 ≤ from → from + count ≤ 1 + most → (rest : List Find) → Ordered most (suc s) 0 rest
+    → Ordered most s from (beside s (select test from count) ++ rest)
 unfolding beside select
-ordered-beside s test from zero rest after = earlier s from (omega arith) after
-ordered-beside s test from (suc count) rest after = case (test from) (ordered-beside s test (suc from) count rest after)
+ordered-beside most s test from zero least below rest after = earlier s from (omega arith) after
+ordered-beside most s test from (suc count) least below rest after =
+    case (test from) (ordered-beside most s test (suc from) count (omega arith) (omega arith) rest after)
   where
-    case : (t : Bool) → Ordered s (suc from) (beside s (select test (suc from) count) ++ rest)
-        → Ordered s from (beside s (cond t (from ∷ select test (suc from) count) (select test (suc from) count)) ++ rest)
-    case true more = next (inr (refl, le-refl from)) more
+    case : (t : Bool) → Ordered most s (suc from) (beside s (select test (suc from) count) ++ rest)
+        → Ordered most s from (beside s (cond t (from ∷ select test (suc from) count) (select test (suc from) count)) ++ rest)
+    case true more = next (inr (refl, le-refl from)) least (omega arith) more
     case false more = lower from (omega arith) more
 
-ordered-collect : (test : ℕ → ℕ → Bool) (count s left : ℕ) → Ordered s 0 (collect (λ i. select (λ n. test n i) 1 count) s left)
+ordered-collect : (test : ℕ → ℕ → Bool) (count s left : ℕ) → Ordered count s 0 (collect (λ i. select (λ n. test n i) 1 count) s left)
 unfolding collect
 ordered-collect test count s zero = none
 ordered-collect test count s (suc left) =
-    lower 0 (omega arith) (ordered-beside s (λ n. test n s) 1 count _ (ordered-collect test count (suc s) left))
+    lower 0 (omega arith) (ordered-beside count s (λ n. test n s) 1 count (omega arith) (omega arith) _ (ordered-collect test count (suc s) left))
 
 -- ---- several patterns
 
@@ -217,7 +235,7 @@ module _ (Ps : List (List ℕ)) (k : ℕ) (T : List ℕ) where
       length-collected test (length Ps) 0 (starts (commonLength Ps) T)
       ∙ sum-ext (length Ps) _ _ (λ j l. ap length (by-number (suc j) (same (suc j) (omega arith) (omega arith))))
 
-  -- and they ascend.
-  pub finds-ascend : Ordered 0 0 (finds Ps k T)
+  -- and they ascend, with no number but the patterns'.
+  pub finds-ascend : Ordered (length Ps) 0 0 (finds Ps k T)
   unfolding finds matching
   finds-ascend = ordered-collect test (length Ps) 0 (starts (commonLength Ps) T)

@@ -23,7 +23,7 @@ unfoldable pub acceptable : List ℕ → List ℕ → ℕ → ℕ
 acceptable P U c = bit (not (usedUp P U c))
 
 -- The field once the bytes U are taken, in whatever order: m - k below the top bit's value, and one more for each byte of U that is not in excess.
--- The steps do not compute it; that they come to it is a theorem.
+-- The steps do not compute it; that they come to it, byte by byte, is proved (`field-start`, `field-entered`, `field-given-back`).
 abbrev pub fieldAfter : List ℕ → ℕ → List ℕ → ℕ
 fieldAfter P k U = topValue + k + length U - length P - excess P U
 

@@ -2,7 +2,7 @@
 use mathlib.Core.Path.{_≡_, refl, sym, ap, ap₂, _∙_}
 use mathlib.Core.Bool.{Bool, true, false, cond, not}
 use mathlib.Core.List.{List, [], _∷_, _++_, append-nil}
-use Prim.Native.Nat.{ℕ, suc, _+_, _-_, _*_, _%_, _^_, _≤_, _<_}
+use Prim.Native.Nat.{ℕ, _+_, _-_, _*_, _%_, _^_, _≤_, _<_}
 use native.Mathlib.Nat.{add-zero}
 use native.Mathlib.Omega.{arith}
 use lib.Bits.{bitAnd}
@@ -16,37 +16,28 @@ use Rattle.lent.specs.Placed.{placed}
 use Rattle.lent.proofs.Placing.{placed-nil, placed-next, placed-placed, length-placed}
 use Rattle.several_form.specs.Finds.{Find, partIn, beside}
 use Rattle.several_form.specs.Mcount.{topValue}
+use Rattle.several_form.proofs.Separate.{part-append, length-part}
 use Rattle.several_pass.specs.Passing.{Noted, topsSet}
 
 -- ---- one part of the finds, in one list
 
 module _ (part : Find → ℕ) where
-  part-append : (F G : List Find) → partIn part (F ++ G) ≡ partIn part F ++ partIn part G
-  unfolding partIn
-  part-append [] G = refl
-  part-append (f ∷ F) G = ap (λ (l : List ℕ). part f ∷ l) (part-append F G)
-
-  length-part : (F : List Find) → length (partIn part F) ≡ length F
-  unfolding partIn
-  length-part [] = refl
-  length-part (f ∷ F) = ap suc (length-part F)
-
   module _ (F : List Find) (at : ℕ) (list : List ℕ) {list′ : List ℕ} (filled : list′ ≡ placed list at (partIn part F)) where
     -- it keeps its length,
     filled-length : at + length F ≤ length list → length list′ ≡ length list
-    filled-length room = ap length filled ∙ length-placed list at (partIn part F) (omega (arith, length-part F))
+    filled-length room = ap length filled ∙ length-placed list at (partIn part F) (omega (arith, length-part part F))
 
     module _ {next : ℕ} (place : next ≡ at + length F) where
       next-is : next ≡ at + length (partIn part F)
-      next-is = place ∙ ap (λ (n : ℕ). at + n) (sym (length-part F))
+      next-is = place ∙ ap (λ (n : ℕ). at + n) (sym (length-part part F))
 
       -- takes one find more,
       filled-one : (f : Find) → at + length F < length list → set list′ next (part f) ≡ placed list at (partIn part (F ++ (f ∷ [])))
       unfolding partIn
       filled-one f room =
           ap₂ (λ (l : List ℕ) (i : ℕ). set l i (part f)) filled next-is
-          ∙ placed-next list at (partIn part F) (part f) (omega (arith, length-part F))
-          ∙ ap (placed list at) (sym (part-append F (f ∷ [])))
+          ∙ placed-next list at (partIn part F) (part f) (omega (arith, length-part part F))
+          ∙ ap (placed list at) (sym (part-append part F (f ∷ [])))
 
       -- and more of them
       filled-more : {list″ : List ℕ} (G : List Find) → at + length F ≤ length list → list″ ≡ placed list′ next (partIn part G)
@@ -54,8 +45,8 @@ module _ (part : Find → ℕ) where
       filled-more G room later =
           later
           ∙ ap₂ (λ (l : List ℕ) (i : ℕ). placed l i (partIn part G)) filled next-is
-          ∙ placed-placed list at (partIn part F) (omega (arith, length-part F)) (partIn part G)
-          ∙ ap (placed list at) (sym (part-append F G))
+          ∙ placed-placed list at (partIn part F) (omega (arith, length-part part F)) (partIn part G)
+          ∙ ap (placed list at) (sym (part-append part F G))
 
 -- ---- both lists
 

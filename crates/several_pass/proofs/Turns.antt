@@ -1,17 +1,18 @@
 -- What the window's word says of a window, and how the pass goes from window start to window start.
-use mathlib.Core.Path.{_≡_, refl, sym, ap, ap₂, _∙_}
-use mathlib.Core.Bool.{Bool, true, false, not}
+use mathlib.Core.Path.{_≡_, sym, ap, ap₂, _∙_}
+use mathlib.Core.Bool.{false, not, Bool·not-not}
 use mathlib.Core.List.{List, [], _∷_, _++_, append-nil}
 use Prim.Native.Nat.{ℕ, suc, _+_, _-_, _*_, _^_, _≤_, _<_}
 use native.Mathlib.Nat.{zero-add, add-mul, one-mul, mul-le-mul-right}
 use native.Mathlib.Omega.{arith}
 use lib.Bits.{bitAnd}
 use lib.Dec.{leb, eqb}
-use lib.ListN.{length, getD, take, drop, length-take, length-drop}
+use lib.ListN.{length, getD, take, drop, length-take}
+use borrow.Author.Tests.{lt-ltb, le-ltb}
 use Rattle.jumbled.specs.Match.{Bytes, matches, window, windowPrefix, starts, select}
 use Rattle.jumbled.proofs.Counts.{bytes-take, bytes-drop}
 use Rattle.jumbled.proofs.Selections.{select-same, select-none, select-few}
-use Rattle.jumbled.proofs.Windows.{window-last, window-first}
+use Rattle.jumbled.proofs.Windows.{window-whole, window-bytes, window-last, window-first}
 use Rattle.several_form.specs.Finds.{numbered, beside, collect, matching, finds}
 use Rattle.several_form.specs.Mcount.{topValue, fieldAfter}
 use Rattle.several_form.proofs.Fields.{field-reached}
@@ -20,7 +21,7 @@ use Rattle.several_form.proofs.Separate.{collect-more, collect-few}
 use Rattle.several_fields.specs.declared.Fields.{Fields}
 use Rattle.several_fields.specs.Words.{packed, Several, WordsOf, Taking, Giving}
 use Rattle.several_fields.proofs.Packing.{top-test, tops-none}
-use Rattle.several_pass.specs.Passing.{Noted, topsSet, SearchedFor, PassedOver}
+use Rattle.several_pass.specs.Passing.{Noted, topsSet, SearchedFor, PassedOver, stillTaken, RoomsLeft}
 use Rattle.several_pass.proofs.Noting.{noted-none, noted-lengths, noted-more}
 
 module _ {m count : ℕ} {fields : Fields} {T positions numbers : List ℕ} (ready : SearchedFor m count fields T positions numbers) (bytes : Bytes T) where
@@ -52,22 +53,16 @@ module _ {m count : ℕ} {fields : Fields} {T positions numbers : List ℕ} (rea
     abbrev W : List ℕ
     W = window m T s
 
-    window-whole : length W ≡ m
-    window-whole = omega (arith, length-take m (drop s T), length-drop s T)
-
-    window-bytes : Bytes W
-    window-bytes = bytes-take m (drop s T) (bytes-drop s T bytes)
-
     abbrev value : ℕ → ℕ
     value f = fieldAfter (numbered Ps (suc f)) (ready .k) W
 
     small : (f : ℕ) → f < count → value f < 256
-    small f l = omega (arith, one-length f l, ready .tolerance, ready .together .short, window-whole)
+    small f l = omega (arith, one-length f l, ready .tolerance, ready .together .short, window-whole m T s whole)
 
     -- a field has its top bit set where its pattern matches
     by-field : (f : ℕ) → f < count → leb topValue (value f) ≡ matches (numbered Ps (suc f)) (ready .k) W
     by-field f l =
-        field-reached (numbered Ps (suc f)) (ready .k) (omega (arith, one-length f l, ready .together .short)) W (window-whole ∙ sym (one-length f l)) window-bytes
+        field-reached (numbered Ps (suc f)) (ready .k) (omega (arith, one-length f l, ready .together .short)) W (window-whole m T s whole ∙ sym (one-length f l)) (window-bytes m T s bytes)
 
     -- the pattern of a field has the next number
     by-number : (number : ℕ) → 1 ≤ number → matches (numbered Ps (suc (number - 1))) (ready .k) W ≡ matches (numbered Ps number) (ready .k) W
@@ -83,15 +78,11 @@ module _ {m count : ℕ} {fields : Fields} {T positions numbers : List ℕ} (rea
           (λ number from to. at (number - 1) (omega arith) ∙ by-number number from)
           ∙ ap (select (λ number. matches (numbered Ps number) (ready .k) W) 1) (sym (ready .counted))
         where
-          not-not : (t : Bool) → not (not t) ≡ t
-          not-not true = refl
-          not-not false = refl
-
           at : (f : ℕ) → f < count → not (eqb (bitAnd word (topValue * 2 ^ (8 * f))) 0) ≡ matches (numbered Ps (suc f)) (ready .k) W
           at f l =
               ap (λ (x : ℕ). not (eqb (bitAnd x (topValue * 2 ^ (8 * f))) 0)) (words .window-word)
               ∙ ap not (top-test value count small f l)
-              ∙ not-not (leb topValue (value f))
+              ∙ Bool·not-not (leb topValue (value f))
               ∙ by-field f l
 
       -- where no top bit is set nothing is found
@@ -219,6 +210,12 @@ module _ {m count : ℕ} {fields : Fields} {T positions numbers : List ℕ} (rea
             ∙ sym (mcount-inspections Ps (ready .k) T (rw (common-length (ready .together)) enough));
       }
 
+  -- with the words of the bytes still taken,
+  pub rooms-left : m ≤ length T → {word : ℕ} {rooms′ positions′ numbers′ : List ℕ} {at inspections : ℕ}
+      → Running word rooms′ positions′ numbers′ at inspections (length T - m + 1) → RoomsLeft Ps m count T rooms′
+  unfolding stillTaken
+  rooms-left enough here = rw (le-ltb (length T) m enough) (here .words .byte-words)
+
   -- and of a text that has no window
   pub passed-none : length T < m → PassedOver Ps (ready .k) T positions positions numbers numbers (record { found = 0; inspections = 0 })
   unfolding finds collect
@@ -228,3 +225,7 @@ module _ {m count : ℕ} {fields : Fields} {T positions numbers : List ℕ} (rea
         noted = rw (common-length (ready .together), none) (noted-none 0 positions numbers);
         inspected = sym (mcount-none Ps (ready .k) T (rw (common-length (ready .together)) short));
       }
+
+  pub rooms-kept : {word : ℕ} {rooms : List ℕ} → length T < m → WordsOf several [] word rooms → RoomsLeft Ps m count T rooms
+  unfolding stillTaken
+  rooms-kept short words = rw (lt-ltb (length T) m short) (words .byte-words)

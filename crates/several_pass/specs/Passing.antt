@@ -1,18 +1,19 @@
 -- What the pass for several patterns asks and yields: document 02, T-01.
 use mathlib.Core.Path.{_≡_}
-use mathlib.Core.Bool.{not}
+use mathlib.Core.Bool.{cond, not}
 use mathlib.Core.List.{List, []}
 use Prim.Native.Nat.{ℕ, suc, _+_, _-_, _*_, _^_, _≤_, _<_}
 use lib.Bits.{bitAnd}
-use lib.Dec.{eqb}
+use lib.Dec.{ltb, eqb}
 use lib.ListN.{length, take}
-use Rattle.jumbled.specs.Match.{select}
+use Rattle.jumbled.specs.Match.{windowPrefix, select}
+use Rattle.table_parikh.specs.Table.{tabulate}
 use Rattle.lent.specs.Placed.{placed}
 use Rattle.lent.specs.declared.SearchCounts.{SearchCounts}
 use Rattle.several_form.specs.Finds.{Find, numbered, Together, beside, finds, positionsIn, numbersIn}
 use Rattle.several_form.specs.Mcount.{topValue, mcount}
 use Rattle.several_fields.specs.declared.Fields.{Fields}
-use Rattle.several_fields.specs.Words.{Words, FieldsFor, Several, WordsOf}
+use Rattle.several_fields.specs.Words.{packed, roomValue, Words, FieldsFor, Several, WordsOf}
 use Rattle.several_pass.specs.declared.Started.{Started}
 
 -- ---- what is found, in two lent lists
@@ -79,6 +80,15 @@ pub record PassedOver (Ps : List (List ℕ)) (k : ℕ) (T positions positions′
   pub noted : Noted (finds Ps k T) 0 positions positions′ numbers numbers′ (r .found)
   pub inspected : r .inspections ≡ mcount Ps k T .inspections
 
-abbrev pub Passes : (m count : ℕ) → Fields → (rooms T positions positions′ numbers numbers′ : List ℕ) → SearchCounts → Type 0
-Passes m count fields rooms T positions positions′ numbers numbers′ r =
-    (ready : Passable m count fields rooms T positions numbers) → PassedOver (ready .of .patterns) (ready .of .k) T positions positions′ numbers numbers′ r
+-- The bytes that are still taken after the pass: those of the last window but its first, and none where the text has no window
+unfoldable pub stillTaken : ℕ → List ℕ → List ℕ
+stillTaken m T = cond (ltb (length T) m) [] (windowPrefix m T (length T - m + 1))
+
+-- The bytes' words that the pass leaves
+abbrev pub RoomsLeft : (Ps : List (List ℕ)) (m count : ℕ) (T rooms : List ℕ) → Type 0
+RoomsLeft Ps m count T rooms = rooms ≡ tabulate 256 (λ c. packed (λ f. roomValue (numbered Ps (suc f)) (stillTaken m T) c) count)
+
+abbrev pub Passes : (m count : ℕ) → Fields → (rooms rooms′ T positions positions′ numbers numbers′ : List ℕ) → SearchCounts → Type 0
+Passes m count fields rooms rooms′ T positions positions′ numbers numbers′ r =
+    (ready : Passable m count fields rooms T positions numbers)
+    → PassedOver (ready .of .patterns) (ready .of .k) T positions positions′ numbers numbers′ r × RoomsLeft (ready .of .patterns) m count T rooms′

@@ -59,8 +59,8 @@ pub fn pass(
     numbers: &mut [u32],
 ) -> SearchCounts
     requires { ⌜ Passable m count fields (now rooms) (now text) (now positions) (now numbers) ⌝ }
-    ensures { λ r. ⌜ Passes m count fields (now (rooms .entry)) (now (text .entry)) (now (positions .entry)) (now (positions .exit))
-        (now (numbers .entry)) (now (numbers .exit)) r ⌝ }
+    ensures { λ r. ⌜ Passes m count fields (now (rooms .entry)) (now (rooms .exit)) (now (text .entry)) (now (positions .entry))
+        (now (positions .exit)) (now (numbers .entry)) (now (numbers .exit)) r ⌝ }
 {
     if text.len() < m {
         return SearchCounts {

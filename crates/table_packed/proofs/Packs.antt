@@ -1,18 +1,18 @@
 -- Laws of `pack`, over any widths and any number of fields: its bound, sums, masks, and the tests of top bits.
 use mathlib.Core.Path.{_≡_, refl, sym, ap, ap₂, _∙_}
-use mathlib.Core.Bool.{Bool, true, false, cond, not, _||_}
+use mathlib.Core.Bool.{Bool, true, false, cond, not, _||_, Bool·not-not}
 use mathlib.Core.Logic.{⊎-elim}
 use Prim.Native.Nat.{ℕ, zero, suc, _+_, _*_, _-_, _/_, _%_, _^_, _≤_, _<_}
-use native.Mathlib.Nat.{add-comm, mul-comm, add-zero, add-mul, zero-mul, eq-of-mul-eq-mul-right, le-refl, mod-lt, mul-div-cancel, pow-suc}
+use native.Mathlib.Nat.{add-comm, add-suc, mul-comm, mul-assoc, add-zero, add-mul, zero-mul, eq-of-mul-eq-mul-right, le-refl, mod-lt, mod-eq-of-lt, add-mul-mod-self-right, mul-div-cancel, pow-suc}
 use native.Mathlib.Omega.{arith}
 use lib.Dec.{eqb, lit<}
 use lib.Arith.{digits-lt}
-use lib.Pow.{pow-pos, pow-add}
+use lib.Pow.{pow-pos, pow-add, mod-pow-add}
 use lib.Bits.{bitAnd, and-block, and-high, and-zero-r}
 use borrow.Author.Tests.{eq-eqb, ne-eqb, eqb-true, eqb-false}
 use Rattle.jumbled.specs.Match.{sum}
 use Rattle.jumbled.specs.Fields.{topSet, some}
-use Rattle.jumbled.proofs.Sums.{below-or-not, sum-ext, sum-point, some-ext}
+use Rattle.jumbled.proofs.Sums.{below-or-not, sum-suc, sum-ext, sum-point, some-ext}
 use Rattle.table_packed.specs.Pack.{pack, topBit, only}
 
 -- Each of the first n fields holds a number of its width
@@ -65,6 +65,41 @@ sum-upto f m (suc n) l =
 -- and no larger a number
 pub pack-upto : (w v : ℕ → ℕ) (m n : ℕ) → m ≤ n → pack w v m ≤ pack w v n
 pack-upto w v m n l = rw (pack-sum w v m, pack-sum w v n) (sum-upto (λ f. v f * 2 ^ sum f w) m n l)
+
+-- ---- no field carries into its neighbour
+
+-- a word's lower fields, whatever stands above them
+lower-fields : (w v : ℕ → ℕ) (j n : ℕ) → pack w v (j + n) % 2 ^ sum j w ≡ pack w v j % 2 ^ sum j w
+lower-fields w v j zero = ap (λ (n : ℕ). pack w v n % 2 ^ sum j w) (add-zero j)
+lower-fields w v j (suc n) =
+    ap (λ (x : ℕ). pack w v x % 2 ^ sum j w) (add-suc j n)
+    ∙ ap (λ (x : ℕ). x % 2 ^ sum j w) (pack-suc w v (j + n) ∙ ap (λ (x : ℕ). pack w v (j + n) + x) above)
+    ∙ add-mul-mod-self-right (pack w v (j + n)) (v (j + n) * 2 ^ rest) (2 ^ sum j w)
+    ∙ lower-fields w v j n
+  where
+    rest : ℕ
+    rest = sum (j + n) w - sum j w
+
+    above : v (j + n) * 2 ^ sum (j + n) w ≡ v (j + n) * 2 ^ (sum (j + n) w - sum j w) * 2 ^ sum j w
+    above =
+        let both : sum (j + n) w ≡ sum (j + n) w - sum j w + sum j w = omega (arith, sum-upto w j (j + n) (omega arith)) in
+        ap (λ (x : ℕ). v (j + n) * 2 ^ x) both
+        ∙ ap (λ (x : ℕ). v (j + n) * x) (pow-add 2 (sum (j + n) w - sum j w) (sum j w))
+        ∙ sym (mul-assoc (v (j + n)) (2 ^ (sum (j + n) w - sum j w)) (2 ^ sum j w))
+
+-- Of any number of fields each holds its own number and nothing of the others'
+pub pack-field : (w v : ℕ → ℕ) (n : ℕ) → ValuesFit w v n → (f : ℕ) → f < n → pack w v n / 2 ^ sum f w % 2 ^ w f ≡ v f
+pack-field w v n fit f l =
+    eq-of-mul-eq-mul-right (2 ^ sum f w) (pow-pos (sum f w)) _ _
+    (omega (arith, mod-pow-add (pack w v n) (w f) (sum f w), low f (omega arith), up-to-f, pack-suc w v f))
+  where
+    low : (j : ℕ) → j ≤ n → pack w v n % 2 ^ sum j w ≡ pack w v j
+    low j h =
+        let rest : j + (n - j) ≡ n = omega arith in
+        ap (λ (x : ℕ). pack w v x % 2 ^ sum j w) (sym rest) ∙ lower-fields w v j (n - j) ∙ mod-eq-of-lt (pack-lt w v j (λ i b. fit i (omega arith)))
+
+    up-to-f : pack w v n % 2 ^ (w f + sum f w) ≡ pack w v (suc f)
+    up-to-f = ap (λ (x : ℕ). pack w v n % 2 ^ x) (add-comm (w f) (sum f w) ∙ sym (sum-suc f w)) ∙ low (suc f) l
 
 -- sums go field by field
 pub pack-add : (w u v : ℕ → ℕ) (n : ℕ) → pack w u n + pack w v n ≡ pack w (λ f. u f + v f) n
@@ -119,10 +154,6 @@ only-fitting w f x n h g l = at (eqb f g) refl
     at : (t : Bool) → eqb f g ≡ t → cond t x 0 < 2 ^ w g
     at true e = rw (sym (eqb-true f g e)) h
     at false e = pow-pos (w g)
-
-not-not : (t : Bool) → not (not t) ≡ t
-not-not true = refl
-not-not false = refl
 
 zero-or-more : (x y : ℕ) → (x ≡ 0 → y ≡ 0) → (y ≡ 0 → x ≡ 0) → eqb x 0 ≡ eqb y 0
 zero-or-more x y f g = at (eqb y 0) refl
@@ -180,7 +211,7 @@ pub tops-test : (w v : ℕ → ℕ) (n : ℕ) → ValuesFit w v n
 tops-test w v n h =
     ap (λ (x : ℕ). eqb x 0) (pack-and w v (λ f. topBit (w f)) n h (tops-fitting w n))
     ∙ pack-zero w (λ f. bitAnd (v f) (topBit (w f))) n
-    ∙ ap not (some-ext n (λ f. not (eqb (bitAnd (v f) (topBit (w f))) 0)) (λ f. topSet (w f) (v f)) (λ f l. ap not (top-test (w f) (v f) (h f l)) ∙ not-not (topSet (w f) (v f))))
+    ∙ ap not (some-ext n (λ f. not (eqb (bitAnd (v f) (topBit (w f))) 0)) (λ f. topSet (w f) (v f)) (λ f l. ap not (top-test (w f) (v f) (h f l)) ∙ Bool·not-not (topSet (w f) (v f))))
 
 and-only : (v : ℕ → ℕ) (f x g : ℕ) → bitAnd (v g) (only f x g) ≡ only f (bitAnd (v f) x) g
 unfolding only

@@ -1,5 +1,5 @@
 -- Which call each kind of case asks for, and what the call comes to (tools/vectors_stream.py, "Operations"). What a call gives is said by its own
--- record: `Whole` of search_whole, and `Opened`, `Feeds`, `SetsMethod`, `Saves` and `Loads` of search.
+-- record: `Whole` of search_whole, `WholeSeveral` of several, and `Opened`, `Feeds`, `SetsMethod`, `Saves` and `Loads` of search.
 use mathlib.Core.Path.{_≡_}
 use mathlib.Core.Bool.{cond}
 use mathlib.Core.List.{List, [], _++_}
@@ -14,14 +14,16 @@ use Rattle.answers.specs.Answers.{answerNumber, answerFound, answerInspections,
 use Rattle.answers.specs.declared.Answer.{Answer}
 use Rattle.table_parikh.specs.Table.{tabulate}
 use Rattle.search_whole.specs.Whole.{Whole}
+use Rattle.several.specs.Whole.{WholeSeveral}
 use Rattle.search.specs.declared.Search.{Search}
 use Rattle.search.specs.declared.SearchResult.{SearchResult}
 use Rattle.search.specs.declared.FeedResult.{FeedResult}
 use Rattle.search.specs.declared.SaveResult.{SaveResult}
 use Rattle.search.specs.Calls.{Opened, Feeds, SetsMethod, Saves, Loads}
 use Rattle.program_report.specs.Output.{output}
-use Rattle.tests_stream.specs.Fillings.{knownByte}
+use Rattle.tests_stream.specs.Fillings.{knownPlace, knownByte}
 use Rattle.tests_stream.specs.Cases.{fieldsOf}
+use Rattle.tests_stream.specs.Patterns.{numberPlaces, patternLengths, patternBytes}
 use Rattle.tests_stream.specs.declared.cases.Case.{Case}
 use Rattle.tests_outcomes.specs.Digests.{digest, listBytes}
 use Rattle.tests_outcomes.specs.Outcomes.{outcomeOf}
@@ -75,6 +77,16 @@ pub record SaveMade (s : Search) (before : List ℕ) (called : Called) : Type 0 
 unfoldable pub knownBuffer : ℕ → List ℕ
 knownBuffer places = tabulate (min places 512) knownByte
 
+-- A search for the patterns that a case hands over, with a list of positions that held `before` and holds `after`. The list of numbers is made for
+-- it, and filled like every other.
+pub record SeveralMade (handed : List ℕ) (k : ℕ) (T before after : List ℕ) (got : Outcome) : Type 0 where
+  pub numbers : List ℕ
+  pub came :
+      Came
+      (WholeSeveral (patternBytes handed) (patternLengths handed) k T before after (tabulate (numberPlaces handed) knownPlace) numbers)
+      (answerOutcome (digest 0 (listBytes after ++ listBytes numbers)))
+      got
+
 -- mixlist's output: its length, and the digest of it
 unfoldable pub reportOutcome : List ℕ → Outcome
 reportOutcome input = outcomeOf 0 (length (output input)) 0 (digest 0 (output input))
@@ -87,15 +99,16 @@ widthNumber P k method = cond (ltb 64 (length P)) 0 (cond (ltb 64 k) 0 (bits P (
 unfoldable pub exactNumber : List ℕ → ℕ
 exactNumber P = cond (ltb 64 (length P)) 0 (bit (exact P))
 
--- The calls that no search is handed to, by the kind of the case: whole search (1), mixlist (8), the bits (9) and exact (10). Only a whole search
--- changes the list.
+-- The calls that no search is handed to, by the kind of the case: whole search (1), mixlist (8), the bits (9), exact (10) and several patterns (11).
+-- Only the two that search a text change the list.
 unfoldable pub OutcomeMade : (op : ℕ) (P : List ℕ) (k method : ℕ) (T before after : List ℕ) → Outcome → Type 0
 OutcomeMade op P k method T before after got =
     cond (eqb op 1) (Came (Whole P k method T before after) (answerOutcome (digest 0 (listBytes after))) got)
+    (cond (eqb op 11) (SeveralMade P k T before after got)
     ((after ≡ before)
     × (got
     ≡ cond (eqb op 8) (reportOutcome T)
-    (cond (eqb op 9) (numberOutcome (widthNumber P k method)) (numberOutcome (exactNumber P)))))
+    (cond (eqb op 9) (numberOutcome (widthNumber P k method)) (numberOutcome (exactNumber P))))))
 
 -- Such a call leaves the search as it was
 pub record Beside (Made : Outcome → Type 0) (s : Search) (called : Called) : Type 0 where

@@ -1,13 +1,14 @@
 // The call that each stored case asks for, and what it came to (tools/vectors_stream.py). specs/ says which call that is.
 ghost use mathlib.Core.Path.{_≡_};
-ghost use mathlib.Core.List.{List};
+ghost use mathlib.Core.List.{List, _++_};
 ghost use Prim.Native.Nat.{ℕ, min, _<_};
 ghost use lib.ListN.{length};
 ghost use Rattle.search.specs.Calls.{Feeds, Saves};
 ghost use Rattle.search_whole.specs.Whole.{Whole};
+ghost use Rattle.several.specs.Whole.{WholeSeveral};
 ghost use Rattle.tests_outcomes.specs.Digests.{Digested, digest, listBytes};
 ghost use Rattle.tests_calls.specs.Calls.{Came, numberOutcome, answerOutcome, admissionCalled, feedCalled, saveCalled, SaveMade, knownBuffer};
-ghost use Rattle.tests_calls.specs.Calls.{reportOutcome, widthNumber, exactNumber, OutcomeMade, CallMade};
+ghost use Rattle.tests_calls.specs.Calls.{SeveralMade, reportOutcome, widthNumber, exactNumber, OutcomeMade, CallMade};
 
 mod from_answers;
 mod searches;
@@ -28,6 +29,12 @@ use tests_stream::cases::Case;
 use tests_stream::cases::HAND;
 use tests_stream::cases::read_fields;
 use tests_stream::fill_buffer;
+use tests_stream::fill_list;
+use tests_stream::list_room;
+use tests_stream::patterns::MOST_LENGTHS;
+use tests_stream::patterns::number_places;
+use tests_stream::patterns::pattern_bytes;
+use tests_stream::patterns::read_lengths;
 
 // The longest buffer of a save.
 const LONGEST_IMAGE: usize = 512;
@@ -111,6 +118,41 @@ fn call_whole(pattern: &[u8], k: u8, method: u8, text: &[u8], list: &mut [u32]) 
     answered(answer, digest_list(0, list))
 }
 
+// Searches for several patterns. The list of positions is filled already, and that of the numbers, which no other call has, is made here.
+fn call_several(handed: &[u8], k: u8, text: &[u8], positions: &mut [u32]) -> Outcome
+    ensures { λ r. ⌜ SeveralMade (now (handed .entry)) k (now (text .entry)) (now (positions .entry)) (now (positions .exit)) r ⌝ }
+{
+    let mut lengths = [0usize; MOST_LENGTHS];
+    let count = read_lengths(handed, &mut lengths);
+    let mut numbers = list_room();
+    let places = number_places(handed);
+    fill_list(&mut numbers, places);
+    several_into(
+        pattern_bytes(handed),
+        &lengths[..count],
+        k,
+        text,
+        positions,
+        &mut numbers[..places],
+    )
+}
+
+fn several_into(
+    patterns: &[u8],
+    lengths: &[usize],
+    k: u8,
+    text: &[u8],
+    positions: &mut [u32],
+    numbers: &mut [u32],
+) -> Outcome
+    ensures { λ r. ⌜ Came (WholeSeveral (now (patterns .entry)) (now (lengths .entry)) k (now (text .entry)) (now (positions .entry))
+        (now (positions .exit)) (now (numbers .entry)) (now (numbers .exit)))
+        (answerOutcome (digest 0 (listBytes (now (positions .exit)) ++ listBytes (now (numbers .exit))))) r ⌝ }
+{
+    let answer = several::whole(patterns, lengths, k, text, positions, numbers);
+    answered(answer, digest_list(digest_list(0, positions), numbers))
+}
+
 // A buffer for every output of mixlist's function.
 fn report_room() -> [u8; REPORT_ROOM]
     ensures { λ r. ⌜ 98560 ≡ length r ⌝ }
@@ -179,6 +221,7 @@ fn call_without(op: u8, pattern: &[u8], k: u8, method: u8, text: &[u8], list: &m
         1 => call_whole(pattern, k, method, text, list),
         8 => call_report(text),
         9 => number_outcome(width_of(pattern, k, method)),
+        11 => call_several(pattern, k, text, list),
         _ => number_outcome(exact(pattern)),
     }
 }

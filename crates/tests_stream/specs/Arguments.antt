@@ -28,7 +28,8 @@ shapeOf op =
     (cond (eqb op 8) (shape 0 65537 0 0 0 0)
     (cond (eqb op 9) (shape 64 0 1 1 0 0)
     (cond (eqb op 10) (shape 64 0 0 0 0 0)
-    (shape 0 0 0 0 0 0)))))))))
+    (cond (eqb op 11) (shape 1024 65537 1 0 4 65537)
+    (shape 0 0 0 0 0 0))))))))))
 
 -- The text of a case, at its place: of the kind 7 it is a search's 149 bytes, as they stand there. How it is spelled; its length and the place
 -- after it
@@ -78,7 +79,7 @@ pub record CaseRead (stream : List ℕ) (at op : ℕ) (case : Case) (P P′ T T�
 -- The kind of the case at a place, and the place after it; 0 is no kind, and nothing follows it
 unfoldable pub kindAt : List ℕ → ℕ → Number
 kindAt stream at =
-    let kind = numberAt stream at 1 10 in
+    let kind = numberAt stream at 1 11 in
     cond (eqb (kind .value) 0) (numberWith 0 nowhere) kind
 
 -- The case at a place: its kind, and then its arguments

@@ -11,7 +11,7 @@ use Rattle.tests_stream.specs.declared.cases.Shape.{Shape}
 
 -- A kind's arguments: they fit the lent buffers and lists, and its numbers 8 bytes
 pub record Readable (shape : Shape) : Type 0 where
-  pub pattern : shape .0 ≤ 300
+  pub pattern : shape .0 ≤ 1024
   pub text : shape .1 ≤ 65537
   pub k : shape .2 ≤ 8
   pub method : shape .3 ≤ 8

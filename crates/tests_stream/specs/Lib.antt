@@ -3,3 +3,4 @@ pub mod Reading
 pub mod Texts
 pub mod Cases
 pub mod Arguments
+pub mod Patterns

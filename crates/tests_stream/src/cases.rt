@@ -61,6 +61,8 @@ fn shape_of(op: u8) -> Shape
         8 => Shape(0, 65537, 0, 0, 0, 0),
         9 => Shape(64, 0, 1, 1, 0, 0),
         10 => Shape(64, 0, 0, 0, 0, 0),
+        // several patterns, with what stands before them
+        11 => Shape(1024, 65537, 1, 0, 4, 65537),
         _ => Shape(0, 0, 0, 0, 0, 0),
     }
 }
@@ -78,7 +80,7 @@ fn read_case_text(stream: &[u8], at: usize, op: u8, longest: usize, text: &mut [
 
 // The arguments of a case of the kind `op`.
 fn read_arguments(stream: &[u8], at: usize, op: u8, pattern: &mut [u8], text: &mut [u8]) -> Case
-    requires { ⌜ (300 ≤ length (now pattern)) × (65537 ≤ length (now text)) ⌝ }
+    requires { ⌜ (1024 ≤ length (now pattern)) × (65537 ≤ length (now text)) ⌝ }
     ensures { λ r. ⌜ Lendable (r .pattern) (now (pattern .exit)) (r .text) (now (text .exit)) (r .places) ⌝ }
     ensures { λ r. ⌜ CaseRead (now (stream .entry)) at op r (now (pattern .entry)) (now (pattern .exit)) (now (text .entry)) (now (text .exit)) ⌝ }
 {
@@ -101,11 +103,11 @@ fn read_arguments(stream: &[u8], at: usize, op: u8, pattern: &mut [u8], text: &m
 
 // The case at a place. A number that is no kind's can't be read.
 pub fn read_case(stream: &[u8], at: usize, pattern: &mut [u8], text: &mut [u8]) -> Case
-    requires { ⌜ (300 ≤ length (now pattern)) × (65537 ≤ length (now text)) ⌝ }
+    requires { ⌜ (1024 ≤ length (now pattern)) × (65537 ≤ length (now text)) ⌝ }
     ensures { λ r. ⌜ Lendable (r .pattern) (now (pattern .exit)) (r .text) (now (text .exit)) (r .places) ⌝ }
     ensures { λ r. ⌜ StoredCase (now (stream .entry)) at r (now (pattern .entry)) (now (pattern .exit)) (now (text .entry)) (now (text .exit)) ⌝ }
 {
-    let number = read_number(stream, at, 1, 10);
+    let number = read_number(stream, at, 1, 11);
     let op = number.value as u8;
     if op == 0 {
         return read_arguments(stream, NOWHERE, op, pattern, text);

@@ -1,6 +1,6 @@
-// The stream of stored cases that the program vectors reads (tools/vectors_stream.py): made bytes, numbers and texts here, cases in a module. An item
-// that can't be read counts as 0 or as empty and leads to a place past the stream's end, and so does every item after it: whoever reads a case
-// asks once, at its end, whether all of it could be read.
+// The stream of stored cases that the program vectors reads (tools/vectors_stream.py): made bytes, numbers and texts here, cases and several
+// patterns in a module each. An item that can't be read counts as 0 or as empty and leads to a place past the stream's end, and so does every item
+// after it: whoever reads a case asks once, at its end, whether all of it could be read.
 
 ghost use mathlib.Core.Path.{_≡_};
 ghost use Prim.Native.Nat.{_≤_};
@@ -11,6 +11,17 @@ ghost use Rattle.tests_stream.specs.Reading.{PartWithin, partAt, numberA
 ghost use Rattle.tests_stream.specs.Texts.{Spelled, spelling, madeSpelling, TextRead};
 
 pub mod cases;
+pub mod patterns;
+
+// The longest list that a call is lent.
+const LONGEST_LIST: usize = 65537;
+
+// Room for it. Its length comes by a law, since the prover would count the places one by one.
+pub fn list_room() -> [u32; LONGEST_LIST]
+    ensures { λ r. ⌜ 65537 ≡ length r ⌝ }
+{
+    [0; LONGEST_LIST]
+}
 
 // Each of the first places gets a number that tells which place it is, so that a place that a call should have left alone shows.
 pub fn fill_list(list: &mut [u32], places: usize)

@@ -16,8 +16,9 @@ use tests_outcomes::read_outcome;
 use tests_stream::cases::HAND;
 use tests_stream::cases::read_case;
 use tests_stream::fill_list;
+use tests_stream::list_room;
 
-// The longest stream; what follows isn't read. The longest text and the longest list of a case.
+// The longest stream; what follows isn't read. The longest text of a case.
 const LONGEST_STREAM: usize = 524288;
 
 const LONGEST_CASE_TEXT: usize = 65537;
@@ -37,14 +38,8 @@ struct Tally {
     differ: usize,
 }
 
-// Room for the longest text, and for the longest list. Their lengths come by a law, since the prover would count the places one by one.
+// Room for the longest text. Its length comes by a law, since the prover would count the bytes one by one.
 fn text_room() -> [u8; LONGEST_CASE_TEXT]
-    ensures { λ r. ⌜ 65537 ≡ length r ⌝ }
-{
-    [0; LONGEST_CASE_TEXT]
-}
-
-fn list_room() -> [u32; LONGEST_CASE_TEXT]
     ensures { λ r. ⌜ 65537 ≡ length r ⌝ }
 {
     [0; LONGEST_CASE_TEXT]
@@ -54,7 +49,7 @@ fn list_room() -> [u32; LONGEST_CASE_TEXT]
 fn run_case(stream: &[u8], at: usize, search: Search) -> Step
     ensures { λ r. ⌜ CaseRun (now (stream .entry)) at search r ⌝ }
 {
-    let mut pattern = [0u8; 300];
+    let mut pattern = [0u8; 1024];
     let mut text = text_room();
     let mut list = list_room();
     let case = read_case(stream, at, &mut pattern, &mut text);

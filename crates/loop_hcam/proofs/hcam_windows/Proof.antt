@@ -17,7 +17,7 @@ use Rattle.table_parikh.proofs.Allowed.{within-matches}
 use Rattle.table_heap.specs.declared.Target.{Target}
 use Rattle.table_heap.specs.Table.{HeapTabled}
 use Rattle.lent.specs.declared.Range.{Range}
-use Rattle.loop_forward.proofs.Progress.{Progress, progress-none, Turn, whole, last-byte, first-byte, both-bytes, by-last, by-first, window-whole, has-room, has-number, has-inspections, turn-listed, turn-skipped, ended}
+use Rattle.loop_forward.proofs.Progress.{Progress, progress-none, Turn, whole, last-byte, first-byte, both-bytes, by-last, by-first, whole-window, has-room, has-number, has-inspections, turn-listed, turn-skipped, ended}
 use Rattle.loop_forward.specs.Hashing.{Summing}
 use Rattle.loop_forward.proofs.Hashing.{summing-more, summing-less}
 use Rattle.loop_hcam.specs.Hashing.{HcamSearchable}
@@ -250,7 +250,7 @@ within-requires c κs =
     omega (
       arith,
       ap length (window-part (args .m) (args .text .now) (to-verify (c .before) .before .before .loop .s)),
-      window-whole turn,
+      whole-window turn,
       turn .fitting .short,
     )
 

@@ -7,7 +7,7 @@ use Rattle.jumbled.proofs.Admission.{admitted, method-given, chunk-taken}
 use Rattle.answers.specs.Numbers.{admissionNumber}
 use Rattle.admit_pattern.proofs.Refusing.{admits-counted}
 use Rattle.admit_chunk.proofs.Documented.{document-limits}
-use Rattle.search_whole.proofs.Wholes.{whole-refused-early, whole-late, whole-refused, whole-listed}
+use Rattle.search_whole.proofs.Wholes.{whole-refusal-early, whole-late, whole-refusal, whole-listed}
 use borrow.Author.Needs.{needs}
 use Rattle.search_whole.proofs.whole.Statement.{statement}
 use Rattle.search_whole.proofs.whole.Tie as tie
@@ -34,7 +34,7 @@ enum-known-admission c = search needs
 returns : tie.Need-returns
 returns c =
     let args = c .before .before .before .before .before .before .before .args in
-    whole-refused-early (args .pattern .now) (args .k) (args .method) (args .text .now) (args .list .now) _
+    whole-refusal-early (args .pattern .now) (args .k) (args .method) (args .text .now) (args .list .now) _
     (ap admissionNumber (sym (c .before .admission .given .1)) ∙ c .before .before .before .admit .ensures .number)
 
 enum-told : tie.Need-enum-told
@@ -50,7 +50,7 @@ returns-2 : tie.Need-returns-2
 returns-2 c =
     let told : tie.After-enum-told = c .before .before .before .before in
     let args = start-of told .args in
-    whole-refused (args .pattern .now) (args .k) (args .method) (args .text .now) (args .list .now) _
+    whole-refusal (args .pattern .now) (args .k) (args .method) (args .text .now) (args .list .now) _
     (ap admissionNumber (sym (c .before .limits2 .given .1)) ∙ c .before .before .before .limits .ensures
     ∙ document-limits 0 (length (args .text .now)) (length (args .list .now))
     ∙ sym (whole-late (args .pattern .now) (args .k) (args .method) (args .text .now) (args .list .now) (accepted told)))

@@ -6,7 +6,7 @@ use native.Mathlib.Omega.{arith}
 use lib.ListN.{length}
 use Rattle.jumbled.specs.Match.{Bytes}
 use Rattle.several_pass.specs.Passing.{SearchedFor, Passable, Startable}
-use Rattle.several_pass.proofs.Turns.{several, Running, same-lengths, whole, places, taking, giving, noted-window, noted-nothing, begun, passed, passed-none}
+use Rattle.several_pass.proofs.Turns.{several, Running, same-lengths, whole, places, taking, giving, noted-window, noted-nothing, begun, passed, passed-none, rooms-left, rooms-kept}
 use Rattle.several_pass.proofs.pass.Statement.{statement}
 use Rattle.several_pass.proofs.pass.Tie as tie
 use Rattle.several_pass.proofs.pass.Reads as reads
@@ -32,7 +32,9 @@ text-bytes : (c : tie.After-shared-slice-known Inv-loop μ-loop) → Bytes (c .b
 text-bytes c = record { below = λ i. c .shared-slice-known .given i .fits }
 
 returns : tie.Need-returns Inv-loop μ-loop
-returns c ready = passed-none (ready .of) (text-bytes (c .before .before .before)) (c .if1 .taken)
+returns c ready =
+    let bytes = text-bytes (c .before .before .before) in
+    (passed-none (ready .of) bytes (c .if1 .taken), rooms-kept (ready .of) bytes (c .if1 .taken) (ready .words))
 
 -- the words of the search are those that the first bytes are taken from
 abbrev starting : (c : tie.After-start-arg Inv-loop μ-loop) → let args = c .before .before .before .before .before .args in
@@ -185,7 +187,8 @@ same-length-2 c = ended-lengths c .1
 returns-2 : tie.Need-returns-2 Inv-loop μ-loop
 returns-2 c ready =
     let enough = c .before .loop .inv .0 in
-    passed (ready .of) (bytes-at c) enough (rw (last-start c) at (ended c ready))
+    let last = rw (last-start c) at (ended c ready) in
+    (passed (ready .of) (bytes-at c) enough last, rooms-left (ready .of) (bytes-at c) enough last)
 
 pub pass-spec : {M : Type 1} → statement M
 pass-spec =

@@ -20,6 +20,9 @@ width-of-requires c κs = search needs
 number-outcome-requires : tie.Need-number-outcome-requires
 number-outcome-requires c κs = search needs
 
+call-several-requires : tie.Need-call-several-requires
+call-several-requires c κs = search needs
+
 exact-requires : tie.Need-exact-requires
 exact-requires c κs = search needs
 
@@ -43,12 +46,22 @@ returns-3 : tie.Need-returns-3
 unfolding OutcomeMade
 returns-3 c = rw (c .before .before .match .keys3) (refl, rw (c .number-outcome .ensures, c .before .width-of .ensures))
 
+same-length-2 : tie.Need-same-length-2
+same-length-2 c = search needs
+
 returns-4 : tie.Need-returns-4
 unfolding OutcomeMade
 returns-4 c =
+    let made : tie.After-call-several = c .before .before in
+    rw (made .before .before .match .keys4) (made .call-several .ensures)
+
+returns-5 : tie.Need-returns-5
+unfolding OutcomeMade
+returns-5 c =
     let arm : tie.At-match-rest = c .before .before in
     let op = arm .before .before .before .before .args .op in
-    rw (ne-eqb op 1 (arm .match .rest .0 .0 .1), ne-eqb op 8 (arm .match .rest .0 .1), ne-eqb op 9 (arm .match .rest .1))
+    let none = arm .match .rest in
+    rw (ne-eqb op 1 (none .0 .0 .0 .1), ne-eqb op 8 (none .0 .0 .1), ne-eqb op 9 (none .0 .1), ne-eqb op 11 (none .1))
     (refl, rw (c .number-outcome2 .ensures, c .before .exact .ensures))
 
 pub call-without-spec : {M : Type 1} → statement M
@@ -59,10 +72,13 @@ call-without-spec =
     call-report-requires
     width-of-requires
     number-outcome-requires
+    call-several-requires
     exact-requires
     number-outcome-requires-2
     same-length
     returns
     returns-2
     returns-3
-    returns-4)
+    same-length-2
+    returns-4
+    returns-5)

@@ -1,9 +1,9 @@
--- `vectors::list_room` meets its contract, by the law on repeats: nothing is counted.
+-- `tests_stream::list_room` meets its contract, by the law on repeats: nothing is counted.
 use mathlib.Core.Path.{sym}
 use Prim.Native.Nat.{ℕ}
 use lib.ListN.{length-replicate}
-use Rattle.vectors.proofs.list_room.Statement.{statement}
-use Rattle.vectors.proofs.list_room.Tie as tie
+use Rattle.tests_stream.proofs.list_room.Statement.{statement}
+use Rattle.tests_stream.proofs.list_room.Tie as tie
 
 returns : tie.Need-returns
 returns c = sym (length-replicate {A = ℕ} 65537 0)

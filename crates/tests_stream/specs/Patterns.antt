@@ -1,0 +1,24 @@
+-- Several patterns, as a case hands them over: "u32 places of the list of pattern numbers, u8 count, that many u64 lengths, and then the bytes of the
+-- patterns" (tools/vectors_stream.py). A number that can't be read is 0.
+use mathlib.Core.List.{List}
+use Prim.Native.Nat.{ℕ, _+_, _*_}
+use lib.ListN.{drop}
+use Rattle.table_parikh.specs.Table.{tabulate}
+use Rattle.tests_stream.specs.Reading.{numberAt}
+
+abbrev pub numberPlaces : List ℕ → ℕ
+numberPlaces handed = numberAt handed 0 4 65537 .value
+
+abbrev pub lengthCount : List ℕ → ℕ
+lengthCount handed = numberAt handed 4 1 16 .value
+
+-- Length i, from 0
+abbrev pub lengthAt : List ℕ → ℕ → ℕ
+lengthAt handed i = numberAt handed (5 + 8 * i) 8 18446744073709551615 .value
+
+-- All the lengths, and the bytes after them
+abbrev pub patternLengths : List ℕ → List ℕ
+patternLengths handed = tabulate (lengthCount handed) (lengthAt handed)
+
+abbrev pub patternBytes : List ℕ → List ℕ
+patternBytes handed = drop (5 + 8 * lengthCount handed) handed

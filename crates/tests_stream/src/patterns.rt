@@ -1,0 +1,61 @@
+// Several patterns, as a case hands them over in the text of its pattern (tools/vectors_stream.py): the places of the list of their numbers, their
+// lengths, and then their bytes.
+ghost use mathlib.Core.Path.{_≡_};
+ghost use Prim.Native.Nat.{_≤_};
+ghost use lib.ListN.{length};
+ghost use Rattle.tests_stream.specs.Fillings.{Filled};
+ghost use Rattle.tests_stream.specs.Reading.{numberAt};
+ghost use Rattle.tests_stream.specs.Patterns.{numberPlaces, lengthCount, lengthAt, patternBytes};
+use crate::read_number;
+
+// The most lengths that a case hands over.
+pub const MOST_LENGTHS: usize = 16;
+
+// The number of `width` bytes at a place.
+fn number_in(handed: &[u8], at: usize, width: usize, most: u64) -> usize
+    requires { ⌜ width ≤ 8 ⌝ }
+    ensures { λ r. ⌜ r ≤ most ⌝ }
+    ensures { λ r. ⌜ r ≡ numberAt (now (handed .entry)) at width most .value ⌝ }
+{
+    let number = read_number(handed, at, width, most);
+    number.value as usize
+}
+
+// How many places the list of numbers has.
+pub fn number_places(handed: &[u8]) -> usize
+    ensures { λ r. ⌜ r ≤ 65537 ⌝ }
+    ensures { λ r. ⌜ r ≡ numberPlaces (now (handed .entry)) ⌝ }
+{
+    number_in(handed, 0, 4, 65537)
+}
+
+// How many lengths there are.
+fn length_count(handed: &[u8]) -> usize
+    ensures { λ r. ⌜ r ≤ 16 ⌝ }
+    ensures { λ r. ⌜ r ≡ lengthCount (now (handed .entry)) ⌝ }
+{
+    number_in(handed, 4, 1, MOST_LENGTHS as u64)
+}
+
+// The lengths, put into the first places of a lent list, and how many there are.
+pub fn read_lengths(handed: &[u8], lengths: &mut [usize]) -> usize
+    requires { ⌜ 16 ≤ length (now lengths) ⌝ }
+    ensures { λ r. ⌜ r ≡ lengthCount (now (handed .entry)) ⌝ }
+    ensures { λ r. ⌜ Filled (lengthAt (now (handed .entry))) r (now (lengths .entry)) (now (lengths .exit)) ⌝ }
+{
+    let count = length_count(handed);
+    let mut i: usize = 0;
+    while i < count {
+        lengths[i] = number_in(handed, 5 + 8 * i, 8, 18446744073709551615);
+        i += 1;
+    }
+    count
+}
+
+// The bytes of the patterns: all that is left after the lengths.
+pub fn pattern_bytes(handed: &[u8]) -> &[u8]
+    ensures { λ r. ⌜ now r ≡ patternBytes (now (handed .entry)) ⌝ }
+{
+    let start = lent::least(5 + 8 * length_count(handed), handed.len());
+    &handed[start..]
+}
