@@ -5,7 +5,8 @@ with the sheet of small records.
     python3 tools/compare.py path/to/mixlist
 
 Four parts, all made from one fixed seed: (a) the sheet, the widths under it
-and the examples of the refusals against reference.py; (b) made inputs run
+and the examples of the refusals against reference.py, and the marked sheet
+against another description of it, byte by byte; (b) made inputs run
 through mixlist, once per input, and its output compared byte for byte with
 the reference's; (c) inputs around the longest one, read by mixlist from a
 file and from a pipe that delivers them in pieces; (d) series of feeds, saves,
@@ -231,6 +232,76 @@ def check_images(tally, rng):
                 tally.same("refused load", search, ref.BLANK)
             else:
                 tally.same("saved again", ref.image_of(search, order), bytes(changed))
+
+
+# Pattern, k, text, and the marked sheet without its blanks on the right.
+MARKED = [
+    (b"abc", 0, b"abcxxxabc", [b"         0 abc", b"         6 abc"]),
+    (b"\n ", 0, b"a \n!\n \x0c", [b"         1 ..", b"         4 .."]),
+    (b"~a", 1, b"..~\x7f", [b"         1 .~", b"         2 ~."]),
+    (b"-", 0, b"0123456789-", [b"        10 -"]),
+    (b"ab", 0, b"a", []),
+]
+
+
+def sheet_byte(i, positions, m, text):
+    """Byte i of the marked sheet of these positions, from where it stands."""
+    page, at = divmod(i, 50 * 76 + 1)
+    line, column = divmod(at, 76)
+    if line == 50 or column == 75:
+        return 12 if line == 50 else 10
+    s = positions[50 * page + line]
+    if column < 10:
+        digit = s // 10 ** (9 - column)
+        return 48 + digit % 10 if digit or column == 9 else 32
+    if column == 10 or column >= 11 + m:
+        return 32
+    reading = text[s + column - 11]
+    return reading if 32 < reading < 127 else 46
+
+
+def marked_alike(tally, pattern, k, method, text, spare, places):
+    """The call on a buffer of so many bytes more than the sheet has, against the
+    whole search and that description."""
+    listed, kept = [9] * places, [9] * places
+    refusal, found, looks = ref.whole_search(pattern, k, method, text, listed)
+    length = 76 * found + max(found - 1, 0) // 50
+    buffer = bytearray(b"\xbb" * max(length + spare, 0))
+    before = bytes(buffer)
+    seen = ref.whole_sheet(pattern, k, method, text, kept, buffer)
+    if not refusal and len(buffer) < length:
+        refusal = 10
+    what = "marked sheet of %r, k %d, method %d, text %r" % (pattern, k, method, text)
+    if refusal:
+        tally.same(what, (seen, kept, bytes(buffer)), ((refusal, 0, 0, 0), [9] * places, before))
+        return
+    sheet = bytes(sheet_byte(i, listed, len(pattern), text) for i in range(length))
+    tally.same(what, (seen, kept), ((0, found, looks, length), listed))
+    tally.same(what + ", buffer", bytes(buffer), sheet + before[length:])
+    tally.same(what + ", read back", ref.positions_of_sheet(sheet), listed[:found])
+    for at, page in enumerate(sheet.split(b"\x0c")):
+        shown_there = listed[:found][50 * at : 50 * at + 50]
+        tally.same(what + ", page read back", ref.positions_of_page(page), shown_there)
+
+
+def check_marked_sheets(tally, rng):
+    for pattern, k, text, lines in MARKED:
+        sheet = b"".join(line.ljust(75) + b"\n" for line in lines)
+        buffer = bytearray(len(sheet))
+        refusal, found, _, length = ref.whole_sheet(pattern, k, 1, text, [0] * len(text), buffer)
+        tally.same("example %r" % text, (refusal, found, length), (0, len(lines), len(sheet)))
+        tally.same("sheet of %r" % text, bytes(buffer), sheet)
+    for lines, spare in itertools.product((0, 1, 49, 50, 51, 99, 100, 101, 150, 151), (-1, 0, 1)):
+        marked_alike(tally, b"a", 0, rng.choice(METHODS), b"a" * lines, spare, lines)
+    for n in (11, 101, 1001, 10001, 65536):
+        marked_alike(tally, b"ab", 0, 1 + n % 5, b"x" * (n - 3) + b"aba", 0, n)
+    for _ in range(400):
+        m = rng.choice((1, 2, 3, 5, 63, 64, 65))
+        pattern = make_pattern(rng, m, rng.randrange(1, 40))
+        k = rng.choice((0, rng.randrange(m + 1)))
+        text = make_text(rng, pattern, k, rng.randrange(2 * m + 9))
+        places = max(len(text) + rng.choice((-1, 0, 3)), 0)
+        marked_alike(tally, pattern, k, rng.randrange(1, 7), text, rng.choice((-1, 0, 5)), places)
 
 
 # --- (b) Made inputs for the program ----------------------------------------
@@ -826,17 +897,22 @@ def check_series(tally):
         tally.guarded("series %d" % number, one_series, rng, number)
 
 
+def check_reference(tally):
+    tally.guarded("sheet", check_sheet)
+    tally.guarded("widths", check_widths)
+    tally.guarded("examples", check_examples)
+    tally.guarded("images", check_images, random.Random("%d images" % SEED))
+    tally.guarded("marked sheets", check_marked_sheets, random.Random("%d marked" % SEED))
+
+
 def main(arguments):
     if len(arguments) != 2:
         print("usage: python3 tools/compare.py path/to/mixlist", file=sys.stderr)
         return 2
     started = time.monotonic()
 
-    sheet = Tally("(a) sheet, widths, examples")
-    sheet.guarded("sheet", check_sheet)
-    sheet.guarded("widths", check_widths)
-    sheet.guarded("examples", check_examples)
-    sheet.guarded("images", check_images, random.Random("%d images" % SEED))
+    sheet = Tally("(a) sheet, widths, examples, marked sheets")
+    check_reference(sheet)
     after_sheet = time.monotonic()
     sheet.report(after_sheet - started)
 

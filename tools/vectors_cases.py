@@ -1000,6 +1000,206 @@ def long_texts_of_several(stream, rng):
         several(stream, patterns, k, scattered(n, rng.randrange(2**32), own + b"x"[: count % 2]))
 
 
+# --- The marked sheet on paper (document 02, T-02) -----------------------------------------
+
+
+def marked(stream, pattern, k, method, text, spare=0, places=None):
+    """A buffer of so many bytes more than the sheet has, or fewer, and as many
+    places as readings, unless it is said how many."""
+    text = vs.as_text(text)
+    lines = len(ref.listed_positions(pattern, k, text.value))
+    room = max(ref.sheet_length(lines) + spare, 0)
+    # The longest buffer that a case can have; cut to it, a sheet that is meant to
+    # be written would be refused.
+    assert room <= 65537, "%d lines, for which no case has a buffer" % lines
+    places = len(text.value) if places is None else places
+    return stream.marked(vs.Marked(room, pattern), k, method, text, places)
+
+
+def numbers_of_lines(stream, rng):
+    """Both sides of one, two and three full pages, with buffers at both sides
+    of what the sheet needs: by a byte, by the bytes between the pages, by a
+    line, and by a line with the byte before it."""
+    for lines in (1, 2, 49, 50, 51, 52, 99, 100, 101, 149, 150, 151):
+        for spare in (-77, -76, -3, -2, -1, 0, 1, 2, 76, 77):
+            marked(stream, b"a", 0, rng.choice(METHODS), repeated(lines, b"a"), spare)
+        text = repeated(3 * lines, b"aba")
+        for spare in (-1, 0, 40):
+            marked(stream, b"ba", 0, rng.choice(METHODS), text, spare)
+
+
+def sheets_of_nothing(stream, rng):
+    """No positions make no bytes, for which an empty buffer is enough; one
+    position makes a line, for which 75 bytes are too few."""
+    for method, room in itertools.product(METHODS, (0, 1, 76)):
+        for text in (b"", b"a", b"bb", repeated(60, b"abb")):
+            stream.marked(vs.Marked(room, b"aab"), 0, method, text, len(vs.as_text(text).value))
+    for method, room in itertools.product(METHODS, (0, 1, 75, 76, 77, 152)):
+        for text in (b"ab", b"xbax"):
+            stream.marked(vs.Marked(room, b"ab"), 0, method, text, 4)
+
+
+# On paper: none and the highest, newline, new page and carriage return, the
+# blank, the marks beside the edges, the lost hour, and the full stop itself.
+SHOWN = bytes((0, 10, 12, 13, 31, 32, 33, 45, 46, 47, 125, 126, 127, 128, 255))
+
+
+def readings_on_paper(stream, rng):
+    """Each edge in the pattern and, by an error, only in the window; then every
+    reading, at every place of a window of 64."""
+    for c in SHOWN:
+        near = bytes([c, (c + 1) % 256, c, (c - 1) % 256, c])
+        for method in METHODS:
+            marked(stream, bytes([c]), 0, method, near)
+        for method in (1, 4):
+            marked(stream, b"aa", 1, method, b"a" + near + b"a")
+    # Readings that would pass for the end of a line or a page, for padding, or for
+    # a position, if they showed as themselves or stood in the first ten bytes.
+    for pattern in (b"\n\n", b"\x0c", b"\n\x0c\n", b"  ", b" 7", b"12", b"\n        77 "):
+        marked(stream, pattern, 0, rng.choice(METHODS), b"a" + pattern * 2 + pattern[::-1])
+    for first in range(0, 256, 64):
+        own = bytes(range(first, first + 64))
+        for method, pattern in ((1, own), (5, own), (1, own[:63]), (5, own[1:])):
+            marked(stream, pattern, 0, method, repeated(130, own))
+    for k in (62, 63):
+        marked(stream, b"a" * 64, k, 1, scattered(140, k, bytes(range(255))))
+        marked(stream, b"a" * 64, k, 4, b"a" + bytes(range(129, 256)) + b"a" * 9)
+
+
+def windows_on_paper(stream, rng):
+    """Every length of a window, in texts that end within it, with it, and after
+    it; with the largest k every window is listed, whatever it holds."""
+    for m in range(1, 65):
+        own = some_letters(rng, 2)
+        pattern = repeated(m, own).value
+        for n in (m - 1, m, m + 1, 2 * m + 1) if m in (1, 2, 63, 64) else (m + 1,):
+            marked(stream, pattern, 0, rng.choice(METHODS), repeated(n, own))
+            marked(stream, pattern, m - 1, rng.choice((1, 4)), scattered(n, m, own + b"x~"))
+
+
+# Lengths of texts that are the same letters over and over, and these: the last
+# positions of pattern `a` are one below a power of ten and the power, or the
+# last that a text can have.
+DIGITS = (
+    (10, b"a"), (11, b"a"), (100, b"a"), (101, b"a"),
+    (1000, b"aa" + b"x" * 35), (1001, b"aa" + b"x" * 35),
+    (10000, b"a" + b"." * 248 + b"a"), (10001, b"a" + b"." * 248 + b"a"),
+    (65535, b"a" + b" " * 254), (65536, b"a" + b" " * 254), (65536, b"-" * 253 + b"aa"),
+)
+
+
+def digits_of_positions(stream, rng):
+    """Positions of one to five digits, at both sides of each power of ten."""
+    for n, unit in DIGITS:
+        for method in METHODS:
+            marked(stream, b"a", 0, method, repeated(n, unit))
+    for n in (65535, 65536):
+        marked(stream, b" a", 0, 1 + n % 5, repeated(n, b"a" + b" " * 254))
+        marked(stream, b"a  ", 1, (1, 4)[n % 2], repeated(n, b"a" + b"x" * 252 + b"  "))
+
+
+def one_sheet_by_every_method(stream, rng):
+    """The same sheet from all methods that take the terms, each with its own
+    looks; the others refuse."""
+    for pattern, k, text, _, _ in SHEET:
+        for method in METHODS + NO_METHODS[:2]:
+            marked(stream, pattern, k, method, text)
+    for m, own, n in ((2, b"ab", 30), (3, b"aab", 90), (5, b"abacc", 150), (12, b"-ab", 75)):
+        pattern = repeated(m, own).value
+        for text in (repeated(n, own + b"x" + own), scattered(n, m, own)):
+            for method in METHODS:
+                marked(stream, pattern, 0, method, text)
+    for q in (10, 11):
+        pattern = letters(q) + b"A" * (63 - q)
+        for method in allowed_methods(pattern, 0):
+            marked(stream, pattern, 0, method, pattern + pattern[:3])
+
+
+# Terms that are refused with 1 to 5, some with several of them, and terms that
+# are taken.
+TERMS = (
+    (b"", 0, 1), (b"", 0, 6), (b"a" * 65, 0, 1), (letters(65), 0, 2), (letters(65), 1, 2),
+    (b"a" * 257, 255, 0), (b"a" * 300, 0, 1), (b"ab", 2, 1), (b"ab", 2, 2), (b"ab", 255, 6),
+    (b"ab", 0, 0), (b"ab", 1, 6), (b"ab", 0, 255), (b"ab", 1, 2), (b"ab", 1, 3), (b"ab", 1, 5),
+    (letters(32), 0, 2), (letters(31), 0, 3), (letters(32), 0, 3), (letters(32), 1, 2),
+    (letters(32), 32, 4), (letters(16), 3, 4), (b"ab", 0, 2), (b"ab", 1, 4), (letters(31), 0, 2),
+)
+
+
+def edges_of_sheet(stream, rng):
+    """Every set of terms with lists and buffers that would be refused too: the
+    first number wins, and 10 comes when nothing else does."""
+    for pattern, k, method in TERMS:
+        text = pattern + b"ab" + pattern[:9]
+        for places, spare in itertools.product((len(text), len(text) - 1), (-1, 0)):
+            marked(stream, pattern, k, method, text, spare, places)
+        stream.marked(vs.Marked(0, pattern), k, method, text, 0)
+        stream.marked(vs.Marked(0, pattern), k, method, repeated(65537, b"ab"), rng.choice((0, 65537)))
+    for method, k in itertools.product(METHODS + NO_METHODS, (0, 1, 2, 255)):
+        marked(stream, b"ab", k, method, b"bab", rng.choice((-1, 0)))
+
+
+def limits_of_sheet(stream, rng):
+    """Numbers 6, 7 and 10, alone and together, at their edges."""
+    for method in METHODS:
+        for places, spare in itertools.product((0, 4, 5, 6, 14), (-152, -1, 0, 1, 30)):
+            marked(stream, b"ab", 0, method, b"abxba", spare, places)
+    for n, places in ((65536, 65536), (65536, 65535), (65536, 65537), (65537, 65537)):
+        for spare in (-65537, -77, -1, 0):
+            text = repeated(n, b"ab" + b"x" * 126)
+            marked(stream, b"ab", 0, rng.choice(METHODS), text, spare, places)
+    for n, room in ((862, 65537), (863, 65537), (65536, 65537), (65537, 65537), (65536, 0)):
+        stream.marked(vs.Marked(room, b"a"), 0, 1 + n % 5, repeated(n, b"a"), n)
+
+
+def made_sheets(stream, rng):
+    for _ in range(120):
+        m = rng.choice((rng.randrange(1, 5), rng.randrange(1, 10), rng.randrange(1, 65)))
+        pattern = pattern_of(rng, m, rng.randrange(1, 5))
+        k = rng.choice((0, rng.randrange(m), rng.randrange(min(m, 4))))
+        text = make_text(rng, pattern, k, rng.randrange(3 * m + 8))
+        method = rng.choice(allowed_methods(pattern, k))
+        places = len(text) + rng.choice((0, 0, 1, 5))
+        marked(stream, pattern, k, method, text, rng.choice((-1, 0, 0, 1, 30)), places)
+
+
+# Length of the text, m, k, the pattern's letters, and others of the text.  Where
+# the text has 861 + m readings every window of it is listed, which makes 862
+# lines, the most that the longest buffer of a case holds.
+LONG = (
+    (862, 1, 0, b"a", b""), (2500, 1, 0, b"~", b"a.-"), (3000, 2, 0, b"ab", b"c"),
+    (2400, 3, 0, b"\n\x0c ", b"7"), (20000, 7, 0, b"abcde", b""), (65536, 4, 0, b"abcd", b"efghij"),
+    (5000, 64, 0, b"ab", b""), (925, 64, 0, b"a", b""),
+    (863, 2, 1, b"ab", b""), (1200, 2, 1, b"ab", b"xyz"), (2000, 3, 1, b"\n\x0c ", b"\xff\r\0"),
+    (1500, 5, 1, b"abc", b"x"), (2500, 9, 2, b"abcde", b"x"), (50000, 6, 1, b"abcdef", b"ghijkl"),
+    (1200, 64, 11, letters(15), b""), (2500, 64, 40, b"ab", b"cdef"), (925, 64, 63, b"ab", b"x"),
+)
+
+# The same, with a line too many or far more.
+TOO_LONG = (
+    (863, 1, 0, b"a", b""), (900, 1, 0, b"a", b""), (926, 64, 0, b"a", b""),
+    (864, 2, 1, b"ab", b""), (3000, 5, 1, b"abc", b""), (5000, 9, 2, b"abcde", b""),
+    (926, 64, 63, b"ab", b"x"), (1500, 64, 40, letters(15), b""),
+)
+
+
+def long_sheets(stream, rng):
+    """Many pages, by every method into a buffer that they fill, and into one a
+    byte shorter and one a byte longer; then more than any buffer here holds."""
+    for n, m, k, own, others in LONG:
+        pattern, text = repeated(m, own).value, scattered(n, rng.randrange(2**32), own + others)
+        methods = allowed_methods(pattern, k)
+        short, longer = rng.choice(methods), rng.choice(methods)
+        for method, spare in [(short, -1)] + [(method, 0) for method in methods] + [(longer, 1)]:
+            number = marked(stream, pattern, k, method, text, spare)
+            assert number == (10 if spare < 0 else 0), "not the number that is meant"
+    for n, m, k, own, others in TOO_LONG:
+        pattern, text = repeated(m, own).value, scattered(n, rng.randrange(2**32), own + others)
+        method = rng.choice(allowed_methods(pattern, k))
+        number = stream.marked(vs.Marked(65537, pattern), k, method, text, n)
+        assert number == 10, "a sheet that fits"
+
+
 # --- All of them ----------------------------------------------------------------------------
 
 FAMILIES = (
@@ -1045,4 +1245,14 @@ FAMILIES = (
     fields_at_their_limits,
     made_several,
     long_texts_of_several,
+    numbers_of_lines,
+    sheets_of_nothing,
+    readings_on_paper,
+    windows_on_paper,
+    digits_of_positions,
+    one_sheet_by_every_method,
+    edges_of_sheet,
+    limits_of_sheet,
+    made_sheets,
+    long_sheets,
 )

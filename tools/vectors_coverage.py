@@ -5,20 +5,22 @@ from collections import Counter
 import reference as ref
 from compare import METHODS, Coverage
 from vectors_stream import (
-    EXACT, FEED, HAND, LOAD, OPEN, REPORT, SAVE, SET_METHOD, SEVERAL, WHOLE, WIDTH, Handed,
+    EXACT, FEED, HAND, LOAD, MARKED, OPEN, REPORT, SAVE, SET_METHOD, SEVERAL, WHOLE, WIDTH,
+    Handed, Marked,
 )
 
 NAMES = {
     WHOLE: "whole search", OPEN: "open", FEED: "feed", SET_METHOD: "set method", SAVE: "save",
     LOAD: "load", REPORT: "report", WIDTH: "width", EXACT: "exact", SEVERAL: "several patterns",
+    MARKED: "marked sheet",
 }
 
-# Document 01, "When a call says no", and document 02, T-01: the numbers of each
-# call.
+# Document 01, "When a call says no", and document 02, T-01 and T-02: the numbers
+# of each call.
 NUMBERS = {
     WHOLE: range(8), OPEN: range(6), FEED: range(10), SET_METHOD: (0, 1, 2, 3, 4, 5, 9),
     SAVE: (0, 1, 2, 3, 4, 5, 9, 10), LOAD: (0, 1, 2, 3, 4, 5, 9),
-    SEVERAL: (0, 1, 2, 6, 7, 12),
+    SEVERAL: (0, 1, 2, 6, 7, 12), MARKED: (0, 1, 2, 3, 4, 5, 6, 7, 10),
 }
 
 # The fewest cases of kinds that are easily thin.
@@ -36,6 +38,16 @@ FEWEST = {
     "several patterns, of which two are equal": 50,
     "pairs that fill both lists": 5,
     "lists of unlike length for several patterns": 10,
+    "sheets of several pages": 150,
+    "sheets of several pages with k > 0": 30,
+    "sheets of over ten pages": 40,
+    "sheets that fill their buffers": 200,
+    "buffers a byte too short for a sheet": 60,
+    "buffers that reach past a sheet": 60,
+    "lists that reach past a sheet's positions": 100,
+    "no positions, and an empty buffer for the sheet": 10,
+    "one position, and an empty buffer for the sheet": 5,
+    "one sheet by all five methods, with unlike looks": 10,
 }
 
 # --- The tests of each call, in their order ------------------------------------
@@ -64,6 +76,10 @@ def handed_tests(handed, k):
     return [(1, bad), (12, apart or wrong), (2, len(lengths) > 0 and k >= lengths[0])]
 
 
+def sheet_needed(pattern, k, text):
+    return ref.sheet_length(len(ref.listed_positions(pattern, k, text)))
+
+
 def tests_of(op, arguments, search):
     """Each number with whether its condition holds, whatever comes before it."""
     if op == OPEN:
@@ -87,6 +103,11 @@ def tests_of(op, arguments, search):
         handed, k, text, places = arguments
         fewer = min(places, handed.places) < len(text) * len(handed.lengths)
         return handed_tests(handed, k) + [(6, len(text) > 65536), (7, fewer)]
+    if op == MARKED:
+        handed, k, method, text, places = arguments
+        limits = [(6, len(text) > 65536), (7, places < len(text))]
+        short = handed.room < sheet_needed(handed.pattern, k, text)
+        return terms_tests(handed.pattern, k, method) + limits + [(10, short)]
     return []
 
 
@@ -109,6 +130,7 @@ EXAMPLES = {
     SAVE: ((0,), ref.BLANK),
     LOAD: ((ref.image_of(ref.BLANK),), ref.BLANK),
     SEVERAL: ((Handed(0, [1], b"a"), 0, b"", 0), ref.BLANK),
+    MARKED: ((Marked(0, b"a"), 0, 1, b"", 0), ref.BLANK),
 }
 
 # --- Coverage ------------------------------------------------------------------
@@ -132,6 +154,8 @@ class VectorCoverage(Coverage):
         self.counts = Counter()
         self.together = set()
         self.in_several = set()
+        self.on_paper = set()
+        self.looks_of_sheets = {}
 
     def case(self, op, arguments, number, before):
         """A case, and the stored search before it."""
@@ -154,6 +178,8 @@ class VectorCoverage(Coverage):
             self.verifications(op, search.pattern, search.method, search.tail, arguments[0])
         elif op == SEVERAL and not number:
             self.several(*arguments)
+        elif op == MARKED and number in (0, 10):
+            self.marked(number, *arguments)
 
     def several(self, handed, k, text, places):
         patterns = ref.cut_up(handed.data, handed.lengths)
@@ -172,6 +198,51 @@ class VectorCoverage(Coverage):
             ("lists of unlike length for several patterns", places != handed.places),
         ):
             self.counts[kind] += holds
+
+    def marked(self, number, handed, k, method, text, places):
+        """A sheet that was written, or one for which the buffer is too short."""
+        room, pattern = handed
+        positions = ref.listed_positions(pattern, k, text)
+        spare = room - ref.sheet_length(len(positions))
+        pages = -(-len(positions) // ref.LINES_OF_A_PAGE)
+        self.on_paper.add(("lines", len(positions), spare))
+        if pages > 10:
+            m = len(pattern)
+            window = m if m in (1, ref.LONGEST_PATTERN) else "between"
+            self.on_paper.add(("over ten pages, window", window, "k > 0", k > 0, spare))
+        for kind, holds in (
+            ("buffers a byte too short for a sheet", spare == -1),
+            ("one position, and an empty buffer for the sheet", len(positions) == 1 and not room),
+            ("no positions, and an empty buffer for the sheet", not positions and not room),
+            ("sheets of several pages", not number and pages > 1),
+            ("sheets of several pages with k > 0", not number and pages > 1 and k > 0),
+            ("sheets of over ten pages", not number and pages > 10),
+            ("sheets that fill their buffers", not number and positions and not spare),
+            ("buffers that reach past a sheet", not number and positions and spare > 0),
+            ("lists that reach past a sheet's positions", not number and 0 < len(positions) < places),
+        ):
+            self.counts[kind] += bool(holds)
+        if not number:
+            self.searched(pattern, k, method, text)
+            self.lines(pattern, k, method, text, positions)
+
+    def lines(self, pattern, k, method, text, positions):
+        """What the lines of a sheet show."""
+        m = len(pattern)
+        for s in positions:
+            self.on_paper.add(("position", s))
+            for c in set(text[s : s + m]):
+                self.on_paper.add(("reading", c, "of the pattern" if c in pattern else "else"))
+        if positions:
+            self.on_paper |= {("window", m), ("method", method)}
+            self.looks_of_one_sheet(pattern, k, method, text)
+
+    def looks_of_one_sheet(self, pattern, k, method, text):
+        looks = self.looks_of_sheets.setdefault((pattern, k, text), {})
+        if method not in looks:
+            looks[method] = ref.by_steps(pattern, k, method, text)[1]
+            unlike = len(looks) == len(METHODS) and len(set(looks.values())) > 1
+            self.counts["one sheet by all five methods, with unlike looks"] += unlike
 
     def first_line(self, given):
         if ref.parse_input(given) is None:
@@ -233,6 +304,30 @@ class VectorCoverage(Coverage):
             for side in ("shorter", "equal", "longer"):
                 yield "m, text", m, side
 
+    def wanted_on_paper(self):
+        """Both sides of every page and of every buffer, with the most lines that
+        fit a buffer here, and in many pages of short and long windows, also with
+        errors, which a window of one reading can't have; every length of a
+        window; every reading, and by an error alone those at an edge; both sides
+        of each power of ten, and the last position of all."""
+        for lines in (0, 1, 49, 50, 51, 99, 100, 101, 150, 151, 862):
+            for spare in (-1, 0, 1) if lines else (0, 1):
+                yield "lines", lines, spare
+        for window in (1, "between", ref.LONGEST_PATTERN):
+            for errors in (False,) if window == 1 else (False, True):
+                for spare in (-1, 0, 1):
+                    yield "over ten pages, window", window, "k > 0", errors, spare
+        for m in range(1, 65):
+            yield "window", m
+        for method in METHODS:
+            yield "method", method
+        for c in range(256):
+            yield "reading", c, "of the pattern"
+        for c in (0, 10, 12, 13, 31, 32, 33, 45, 46, 126, 127, 128, 255):
+            yield "reading", c, "else"
+        for s in (0, 9, 10, 99, 100, 999, 1000, 9999, 10000, 65534, 65535):
+            yield "position", s
+
     def gaps(self):
         missing = []
         for op, numbers in NUMBERS.items():
@@ -261,6 +356,9 @@ class VectorCoverage(Coverage):
         for reached in self.wanted_together():
             if reached not in self.together:
                 missing.append("several patterns with %s" % (reached,))
+        for reached in self.wanted_on_paper():
+            if reached not in self.on_paper:
+                missing.append("a marked sheet with %s" % (reached,))
         if min(len(self.in_pattern), len(self.in_text), len(self.in_several)) < 256:
             missing.append("byte values")
         if min(self.sides.values()) == 0 or self.failed_verification == 0:

@@ -29,8 +29,12 @@ Operations, their arguments, a and b, and what the digest is of:
                    without being verified, else 0; 0
     11 several     text handed, u8 k, text, u32 places of the positions' list
                    found, looks; the positions' list, then the numbers' list
+    12 marked      text handed, u8 k, u8 method, text, u32 places
+                   found, looks; the list, then the buffer, then the sheet's
+                   length in 8 bytes
 What is handed to 11 has u32 places of the list of pattern numbers, u8 count,
-that many u64 lengths, and then the bytes of the patterns.
+that many u64 lengths, and then the bytes of the patterns; what is handed to 12
+has u32 bytes of the sheet's buffer, and then the pattern.
 The calls 2 to 6 work on one search, at first the blank one.  Place i of a list
 holds (i * 2654435761 + 12345) % 2^32 before the call, byte i of a buffer
 (i * 37 + 11) % 256.  A digest starts at 0 and takes in a byte as
@@ -44,11 +48,15 @@ from collections import namedtuple
 
 import reference as ref
 
-WHOLE, OPEN, FEED, SET_METHOD, SAVE, LOAD, HAND, REPORT, WIDTH, EXACT, SEVERAL = range(1, 12)
+WHOLE, OPEN, FEED, SET_METHOD, SAVE, LOAD, HAND, REPORT, WIDTH, EXACT = range(1, 11)
+SEVERAL, MARKED = 11, 12
 
 # Several patterns: the places of the list of their numbers, their lengths, and
 # their bytes.
 Handed = namedtuple("Handed", "places lengths data")
+
+# A search with its marked sheet: the bytes of the sheet's buffer, and the pattern.
+Marked = namedtuple("Marked", "room pattern")
 
 # --- Texts --------------------------------------------------------------------
 
@@ -201,6 +209,17 @@ class Stream:
         digested = list_bytes(positions) + list_bytes(numbers)
         return self.case(SEVERAL, arguments, number, found, looks, digested)
 
+    def marked(self, handed, k, method, text, places):
+        text = as_text(text)
+        filled, buffer = list(fresh_places(places)), fresh_buffer(handed.room)
+        number, found, looks, length = ref.whole_sheet(
+            handed.pattern, k, method, text.value, filled, buffer
+        )
+        arguments = literal(struct.pack("<I", handed.room) + handed.pattern).form
+        arguments += bytes([k, method]) + text.form + struct.pack("<I", places)
+        digested = list_bytes(filled) + bytes(buffer) + struct.pack("<Q", length)
+        return self.case(MARKED, arguments, number, found, looks, digested)
+
 
 # --- Reading --------------------------------------------------------------------
 
@@ -223,6 +242,9 @@ ARGUMENTS = {
     WIDTH: (("text", 64), ("number", 1), ("number", 1)),
     EXACT: (("text", 64),),
     SEVERAL: (("handed", 1024), ("number", 1), ("text", 65537), ("places", 65537)),
+    MARKED: (
+        ("marked", 304), ("number", 1), ("number", 1), ("text", 65537), ("places", 65537),
+    ),
 }
 
 
@@ -269,6 +291,10 @@ class Reader:
         places, count = front.limited(4, 65537), front.limited(1, 16)
         lengths = [front.number(8) for _ in range(count)]
         return Handed(places, lengths, front.data[front.at :])
+
+    def marked(self, longest):
+        front = Reader(self.text(longest).value)
+        return Marked(front.limited(4, 65537), front.data[front.at :])
 
 
 def read_cases(data):

@@ -4,6 +4,8 @@ use Prim.Native.Nat.{ℕ}
 use Rattle.answers.specs.Numbers.{numberOf}
 use Rattle.answers.specs.declared.Answer.{Answer}
 use Rattle.answers.specs.declared.Answer.the-variants.{Listed, Refused}
+use Rattle.answers.specs.declared.SheetAnswer.{SheetAnswer}
+use Rattle.answers.specs.declared.SheetAnswer.the-variants as SheetAnswer
 use Rattle.answers.specs.declared.Saving.{Saving}
 use Rattle.answers.specs.declared.Saving.the-variants as Saving
 
@@ -20,6 +22,24 @@ answerFound (Refused refusal) = 0
 abbrev pub answerInspections : Answer → ℕ
 answerInspections (Listed found inspections) = inspections
 answerInspections (Refused refusal) = 0
+
+-- ---- of a whole search with its sheet
+
+abbrev pub sheetNumber : SheetAnswer → ℕ
+sheetNumber (SheetAnswer.Written found inspections len) = 0
+sheetNumber (SheetAnswer.Refused refusal) = numberOf refusal
+
+abbrev pub sheetFound : SheetAnswer → ℕ
+sheetFound (SheetAnswer.Written found inspections len) = found
+sheetFound (SheetAnswer.Refused refusal) = 0
+
+abbrev pub sheetInspections : SheetAnswer → ℕ
+sheetInspections (SheetAnswer.Written found inspections len) = inspections
+sheetInspections (SheetAnswer.Refused refusal) = 0
+
+abbrev pub sheetLength : SheetAnswer → ℕ
+sheetLength (SheetAnswer.Written found inspections len) = len
+sheetLength (SheetAnswer.Refused refusal) = 0
 
 -- ---- of a save
 

@@ -52,6 +52,16 @@ pub enum Answer {
     Refused(Refusal),
 }
 
+// What a whole search with its sheet answers (document 02, T-02): the two counts, and how many bytes the sheet has.
+pub enum SheetAnswer {
+    Written {
+        found: usize,
+        inspections: usize,
+        len: usize,
+    },
+    Refused(Refusal),
+}
+
 // What a save answers: the image's length.
 pub enum Saving {
     Written(usize),

@@ -1,7 +1,7 @@
 -- What is read in an image is what was written, whatever the order of its entries.
 use mathlib.Core.Path.{_≡_, refl, sym, ap, ap₂, _∙_}
 use mathlib.Core.Bool.{Bool, true, false, cond}
-use mathlib.Core.List.{List, [], _∷_, _++_, map, append-assoc}
+use mathlib.Core.List.{List, [], _∷_, _++_, map, append-assoc, flatMap}
 use mathlib.Core.Logic.{⊎-elim}
 use Prim.Native.Nat.{ℕ, zero, suc, _+_, _*_, _^_, _≤_, _<_}
 use native.Mathlib.Nat.{add-mul}
@@ -12,7 +12,7 @@ use lib.Seq.{take-append-seam, drop-append-add}
 use borrow.Author.Tests.{eq-eqb, ne-eqb}
 use Rattle.jumbled.specs.Match.{bit, cc}
 use Rattle.jumbled.proofs.Counts.{cc-nil, cc-cons}
-use Rattle.image_form.specs.Image.{Parts, partsWith, lowFirst, body, entry, each, entries, image, IsOrder, saveOrder, Sized}
+use Rattle.image_form.specs.Image.{Parts, partsWith, lowFirst, body, entry, entries, image, IsOrder, saveOrder, Sized}
 use Rattle.image_form.specs.Decode.{fromLowFirst, Entry, firstEntry, entriesIn, contents, lengthIn, lengthsBefore, lengths, lengthOf, bodyOf, times, kindsRight, badForm, partsOf}
 use Rattle.image_form.proofs.Numbers.{number-lowFirst, length-lowFirst}
 use Rattle.image_form.proofs.Contents.{same-or-not, length-here, length-later, before-here, before-later, taken}
@@ -73,9 +73,9 @@ body-short {parts} sized kind =
 -- ---- lengths
 
 -- each body is as often among the bodies as its kind is in the order
-length-bodies : (parts : Parts) (order : List ℕ) → length (each (body parts) order)
+length-bodies : (parts : Parts) (order : List ℕ) → length (flatMap (body parts) order)
     ≡ cc order 1 * length (parts .pattern) + cc order 2 * 2 + cc order 3 * 4 + cc order 4 * length (parts .tail)
-unfolding each size
+unfolding flatMap size
 length-bodies parts [] = rw (cc-nil 1, cc-nil 2, cc-nil 3, cc-nil 4) (omega arith)
 length-bodies parts (kind ∷ order) =
     let rest = length-bodies parts order in
@@ -83,21 +83,21 @@ length-bodies parts (kind ∷ order) =
     rw (cc-cons kind order 1, cc-cons kind order 2, cc-cons kind order 3, cc-cons kind order 4)
     (omega (
       arith,
-      length-append (body parts kind) (each (body parts) order),
+      length-append (body parts kind) (flatMap (body parts) order),
       add-mul (bit (eqb kind 1)) (cc order 1) (length (parts .pattern)),
       add-mul (bit (eqb kind 4)) (cc order 4) (length (parts .tail)),
     ))
 
 -- an entry is 3 bytes
 pub length-entries : (bodyFor : ℕ → List ℕ) (order : List ℕ) → length (entries bodyFor order) ≡ 3 * length order
-unfolding each lowFirst
+unfolding flatMap lowFirst
 length-entries bodyFor [] = refl
 length-entries bodyFor (kind ∷ order) = let rest = length-entries bodyFor order in omega arith
 
 module _ {order : List ℕ} (parts : Parts) (o : IsOrder order) where
-  pub length-in-order : length (each (body parts) order) ≡ 6 + length (parts .pattern) + length (parts .tail)
+  pub length-in-order : length (flatMap (body parts) order) ≡ 6 + length (parts .pattern) + length (parts .tail)
   length-in-order =
-      let sizes : length (each (body parts) order) ≡ 1 * length (parts .pattern) + 1 * 2 + 1 * 4 + 1 * length (parts .tail) =
+      let sizes : length (flatMap (body parts) order) ≡ 1 * length (parts .pattern) + 1 * 2 + 1 * 4 + 1 * length (parts .tail) =
       rw (
         o .once 1 (omega arith) (omega arith),
         o .once 2 (omega arith) (omega arith),
@@ -112,7 +112,7 @@ module _ {order : List ℕ} (parts : Parts) (o : IsOrder order) where
   length-image =
       omega (
         arith,
-        length-append (entries (body parts) order) (each (body parts) order),
+        length-append (entries (body parts) order) (flatMap (body parts) order),
         length-entries (body parts) order,
         length-in-order,
         o .four,
@@ -132,7 +132,7 @@ module _ {parts : Parts} (sized : Sized parts) where
       ap (λ (n : ℕ). record { kind = kind; len = n }) (number-lowFirst 2 (length (body parts kind)) (body-short sized kind))
 
   entries-listed : (order rest : List ℕ) → entriesIn (length order) (entries (body parts) order ++ rest) ≡ listedEntries parts order
-  unfolding entriesIn each listedEntries lowFirst
+  unfolding entriesIn flatMap listedEntries lowFirst
   entries-listed [] rest = refl
   entries-listed (kind ∷ order) rest =
       ap₂ (λ (e : Entry) (es : List Entry). e ∷ es) (first-entry kind (entries (body parts) order ++ rest)) (entries-listed order rest)
@@ -140,14 +140,14 @@ module _ {parts : Parts} (sized : Sized parts) where
   contents-image : (order : List ℕ) → length order ≡ 4 → contents (image order parts) ≡ listedEntries parts order
   unfolding contents image
   contents-image order four =
-      ap (λ (n : ℕ). entriesIn n (entries (body parts) order ++ each (body parts) order)) (sym four) ∙ entries-listed order (each (body parts) order)
+      ap (λ (n : ℕ). entriesIn n (entries (body parts) order ++ flatMap (body parts) order)) (sym four) ∙ entries-listed order (flatMap (body parts) order)
 
 -- what the entries say: the lengths of the bodies, and each kind as often as the order has it
-lengths-listed : (parts : Parts) (order : List ℕ) → lengths (listedEntries parts order) ≡ length (each (body parts) order)
-unfolding lengths listedEntries each
+lengths-listed : (parts : Parts) (order : List ℕ) → lengths (listedEntries parts order) ≡ length (flatMap (body parts) order)
+unfolding lengths listedEntries flatMap
 lengths-listed parts [] = refl
 lengths-listed parts (kind ∷ order) =
-    ap (λ (n : ℕ). length (body parts kind) + n) (lengths-listed parts order) ∙ sym (length-append (body parts kind) (each (body parts) order))
+    ap (λ (n : ℕ). length (body parts kind) + n) (lengths-listed parts order) ∙ sym (length-append (body parts kind) (flatMap (body parts) order))
 
 times-listed : (parts : Parts) (order : List ℕ) (kind : ℕ) → times kind (listedEntries parts order) ≡ cc order kind
 unfolding listedEntries times
@@ -173,21 +173,21 @@ length-listed parts (a ∷ order) kind h =
 -- and its body stands after the bodies of the entries before it: `front` is what stands before the first of them
 abbrev Stands : Parts → List ℕ → ℕ → List ℕ → Type 0
 Stands parts order kind front =
-    take (length (body parts kind)) (drop (length front + lengthsBefore kind (listedEntries parts order)) (front ++ each (body parts) order)) ≡ body parts kind
+    take (length (body parts kind)) (drop (length front + lengthsBefore kind (listedEntries parts order)) (front ++ flatMap (body parts) order)) ≡ body parts kind
 
 body-listed : (parts : Parts) (order : List ℕ) (kind : ℕ) → 0 < cc order kind → (front : List ℕ) → Stands parts order kind front
-unfolding listedEntries each
+unfolding listedEntries flatMap
 body-listed parts [] kind h front = absurd (omega (arith, cc-nil kind))
 body-listed parts (a ∷ order) kind h front =
     ⊎-elim here (λ (differ : a ≡ kind → ⊥). there differ (body-listed parts order kind (later order differ h) (front ++ body parts a))) (same-or-not a kind)
   where
     here : a ≡ kind → Stands parts (a ∷ order) kind front
     here same =
-        ap (λ (n : ℕ). take (length (body parts kind)) (drop (length front + n) (front ++ (body parts a ++ each (body parts) order))))
+        ap (λ (n : ℕ). take (length (body parts kind)) (drop (length front + n) (front ++ (body parts a ++ flatMap (body parts) order))))
         (before-here kind _ (listedEntries parts order) same)
-        ∙ ap (take (length (body parts kind))) (drop-append-add front (body parts a ++ each (body parts) order) 0)
-        ∙ ap (λ (b : ℕ). take (length (body parts b)) (body parts a ++ each (body parts) order)) (sym same)
-        ∙ take-append-seam (body parts a) (each (body parts) order)
+        ∙ ap (take (length (body parts kind))) (drop-append-add front (body parts a ++ flatMap (body parts) order) 0)
+        ∙ ap (λ (b : ℕ). take (length (body parts b)) (body parts a ++ flatMap (body parts) order)) (sym same)
+        ∙ take-append-seam (body parts a) (flatMap (body parts) order)
         ∙ ap (body parts) same
 
     there : (a ≡ kind → ⊥) → Stands parts order kind (front ++ body parts a) → Stands parts (a ∷ order) kind front
@@ -198,7 +198,7 @@ body-listed parts (a ∷ order) kind h front =
           before-later kind (record { kind = a; len = length (body parts a) }) (listedEntries parts order) differ,
           length-append front (body parts a),
         ) in
-        ap₂ (λ (n : ℕ) (l : List ℕ). take (length (body parts kind)) (drop n l)) start (sym (append-assoc front (body parts a) (each (body parts) order)))
+        ap₂ (λ (n : ℕ) (l : List ℕ). take (length (body parts kind)) (drop n l)) start (sym (append-assoc front (body parts a) (flatMap (body parts) order)))
         ∙ rest
 
 -- ---- the image of some parts, in any order
@@ -219,7 +219,7 @@ module _ {order : List ℕ} {parts : Parts} (o : IsOrder order) (sized : Sized p
   unfolding image
   stands kind least most =
       let front : length (4 ∷ entries (body parts) order) ≡ 13 = omega (arith, length-entries (body parts) order, o .four) in
-      ap (λ (n : ℕ). take (length (body parts kind)) (drop (n + lengthsBefore kind (listedEntries parts order)) (4 ∷ (entries (body parts) order ++ each (body parts) order))))
+      ap (λ (n : ℕ). take (length (body parts kind)) (drop (n + lengthsBefore kind (listedEntries parts order)) (4 ∷ (entries (body parts) order ++ flatMap (body parts) order))))
       (sym front)
       ∙ body-listed parts order kind (occurs kind least most) (4 ∷ entries (body parts) order)
 
@@ -254,7 +254,7 @@ module _ {order : List ℕ} {parts : Parts} (o : IsOrder order) (sized : Sized p
   whole-length =
       omega (
         arith,
-        length-append (entries (body parts) order) (each (body parts) order),
+        length-append (entries (body parts) order) (flatMap (body parts) order),
         length-entries (body parts) order,
         o .four,
         ap lengths listed-contents,
@@ -306,7 +306,7 @@ save-order = record { four = refl; once = once }
 -- The example of document 01, "The saved image": the pattern `ab` with k 0 and method 2, nothing fed yet, the entries ascending by kind
 pub example : image (1 ∷ 2 ∷ 3 ∷ 4 ∷ []) (partsWith (97 ∷ 98 ∷ []) 0 2 0 [])
     ≡ 4 ∷ 1 ∷ 2 ∷ 0 ∷ 2 ∷ 2 ∷ 0 ∷ 3 ∷ 4 ∷ 0 ∷ 4 ∷ 0 ∷ 0 ∷ 97 ∷ 98 ∷ 0 ∷ 2 ∷ 0 ∷ 0 ∷ 0 ∷ 0 ∷ []
-unfolding image each body lowFirst
+unfolding image flatMap body lowFirst
 example = refl
 
 -- The example of 9, "When a call says no": an image that ends after its first byte

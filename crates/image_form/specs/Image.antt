@@ -1,7 +1,7 @@
 -- What save writes: document 01, "The saved image".
 use mathlib.Core.Path.{_≡_}
 use mathlib.Core.Bool.{cond}
-use mathlib.Core.List.{List, [], _∷_, _++_}
+use mathlib.Core.List.{List, [], _∷_, _++_, flatMap}
 use Prim.Native.Nat.{ℕ, zero, suc, _/_, _%_, _^_, _≤_, _<_}
 use lib.Dec.{eqb}
 use lib.ListN.{length}
@@ -38,18 +38,13 @@ body parts kind =
 abbrev pub entry : ℕ → ℕ → List ℕ
 entry kind len = kind ∷ lowFirst 2 len
 
--- What a function gives for each kind of an order, one after the other
-unfoldable pub each : (ℕ → List ℕ) → List ℕ → List ℕ
-each f [] = []
-each f (kind ∷ order) = f kind ++ each f order
-
 -- The entries in an order, where a function gives each kind its body
 abbrev pub entries : (ℕ → List ℕ) → List ℕ → List ℕ
-entries bodyFor order = each (λ kind. entry kind (length (bodyFor kind))) order
+entries bodyFor order = flatMap (λ kind. entry kind (length (bodyFor kind))) order
 
 -- The image whose entries stand in an order: the byte 04, the entries, and then the bodies in that order too
 unfoldable pub image : List ℕ → Parts → List ℕ
-image order parts = 4 ∷ (entries (body parts) order ++ each (body parts) order)
+image order parts = 4 ∷ (entries (body parts) order ++ flatMap (body parts) order)
 
 -- The kinds 1 to 4, each once
 pub record IsOrder (order : List ℕ) : Type 0 where

@@ -1,11 +1,10 @@
 -- The answers of the saving of a search's parts.
-use mathlib.Core.Path.{_≡_, refl, sym, _∙_}
+use mathlib.Core.Path.{_≡_, sym, _∙_}
 use mathlib.Core.List.{List}
 use Prim.Native.Nat.{ℕ, _≤_, _<_}
 use native.Mathlib.Nat.{zero-add}
 use lib.ListN.{length}
-use borrow.Author.Tests.{lt-ltb, le-ltb}
-use Rattle.jumbled.specs.Refusals.{given, bufferTests}
+use Rattle.jumbled.proofs.Admission.{buffer-short, buffer-fits}
 use Rattle.lent.specs.Placed.{placed}
 use Rattle.image_form.specs.Image.{Parts, image, saveOrder}
 use Rattle.lent.specs.Written.{Written}
@@ -21,9 +20,8 @@ module _ (parts : Parts) (buffer : List ℕ) where
 
   -- a refusal leaves the buffer as it was
   pub saved-short : length buffer < length written → Saved parts buffer buffer (Saving.Refused BufferTooShort)
-  unfolding bufferTests given
   saved-short h =
-      let number : numberOf BufferTooShort ≡ bufferNumber parts buffer = rw (lt-ltb (length buffer) (length written) h) refl in
+      let number : numberOf BufferTooShort ≡ bufferNumber parts buffer = sym (buffer-short (length buffer) (length written) h) in
       record {
         number = number;
         len = on-refusal BufferTooShort (bufferNumber parts buffer) (length written) 0 number;
@@ -31,9 +29,8 @@ module _ (parts : Parts) (buffer : List ℕ) where
       }
 
   pub saved-written : length written ≤ length buffer → (after : List ℕ) (len : ℕ) → Written buffer 0 written after len → Saved parts buffer after (Saving.Written len)
-  unfolding bufferTests given
   saved-written h after len w =
-      let none : bufferNumber parts buffer ≡ 0 = rw (le-ltb (length buffer) (length written) h) refl in
+      let none : bufferNumber parts buffer ≡ 0 = buffer-fits (length buffer) (length written) h in
       record {
         number = sym none;
         len = w .place ∙ zero-add _ ∙ on-accepted (bufferNumber parts buffer) (length written) 0 none;

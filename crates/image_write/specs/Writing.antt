@@ -1,9 +1,9 @@
 -- What the code that writes an image puts into the buffer: document 01, "The saved image".
 use mathlib.Core.Path.{_≡_}
-use mathlib.Core.List.{List}
+use mathlib.Core.List.{List, flatMap}
 use Prim.Native.Nat.{ℕ, _+_, _≤_}
 use lib.ListN.{length}
-use Rattle.image_form.specs.Image.{Parts, each, entries, image, saveOrder}
+use Rattle.image_form.specs.Image.{Parts, entries, image, saveOrder}
 use Rattle.lent.specs.Written.{Written}
 use Rattle.image_write.specs.Bodies.{bodyFrom}
 
@@ -12,7 +12,7 @@ abbrev pub allEntries : List ℕ → List ℕ → List ℕ → List ℕ
 allEntries pattern numbers tail = entries (bodyFrom pattern numbers tail) saveOrder
 
 abbrev pub allBodies : List ℕ → List ℕ → List ℕ → List ℕ
-allBodies pattern numbers tail = each (bodyFrom pattern numbers tail) saveOrder
+allBodies pattern numbers tail = flatMap (bodyFrom pattern numbers tail) saveOrder
 
 -- k, method and n take 6 bytes, and there is room for U from a place of the buffer on
 pub record Roomy (numbers U buffer : List ℕ) (at : ℕ) : Type 0 where

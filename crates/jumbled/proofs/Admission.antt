@@ -8,9 +8,9 @@ use Prim.Native.Nat.{ℕ, zero, suc, _+_, _≤_, _<_}
 use native.Mathlib.Omega.{arith}
 use lib.Dec.{leb, ltb, eqb, eqb·suc-zero}
 use lib.ListN.{length}
-use borrow.Author.Tests.{leb-true, leb-false, ltb-true, ltb-false, le-ltb, eqb-true, eqb-false, eq-eqb, ne-eqb, not-false}
+use borrow.Author.Tests.{leb-true, leb-false, ltb-true, ltb-false, lt-ltb, le-ltb, eqb-true, eqb-false, eq-eqb, ne-eqb, not-false}
 use Rattle.jumbled.specs.Fields.{layoutOf, bits}
-use Rattle.jumbled.specs.Refusals.{Test, test, given, isMethod, exactOnly, lengthTests, toleranceTests, knownTests, exactTests, widthTests, textTests, inputTests, placeTests, totalTests, tailLength, tailTests, lineTests, methodTests, patternTests, sizeTests, searchTests, chunkTests, requestTests, programTests}
+use Rattle.jumbled.specs.Refusals.{Test, test, given, isMethod, exactOnly, lengthTests, toleranceTests, knownTests, exactTests, widthTests, textTests, inputTests, placeTests, totalTests, tailLength, tailTests, bufferTests, lineTests, methodTests, patternTests, sizeTests, wholeTests, searchTests, chunkTests, requestTests, programTests}
 
 pub or-false : (a b : Bool) → (a || b) ≡ false → (a ≡ false) × (b ≡ false)
 or-false true b e = absurd (true≢false e)
@@ -295,6 +295,26 @@ pub size-fits : (bytes places : ℕ) → bytes ≤ 65536 → bytes ≤ places �
 unfolding sizeTests textTests placeTests given
 size-fits bytes places short room = rw (le-ltb 65536 bytes short, le-ltb places bytes room) refl
 
+-- ---- 1 to 7
+
+pub whole-numbered : (P : List ℕ) (k method bytes places : ℕ) → Numbered (wholeTests P k method bytes places)
+unfolding wholeTests
+whole-numbered P k method bytes places =
+    numbered-append (patternTests P k method) (sizeTests bytes places) (pattern-numbered P k method) (size-numbered bytes places)
+
+-- what it says that none of them applies
+pub record WholeTaken (P : List ℕ) (k method bytes places : ℕ) : Type 0 where
+  pub pattern-right : given (patternTests P k method) ≡ 0
+  pub size : SizeTaken bytes places
+
+pub whole-taken : (P : List ℕ) (k method bytes places : ℕ) → given (wholeTests P k method bytes places) ≡ 0 → WholeTaken P k method bytes places
+unfolding wholeTests
+whole-taken P k method bytes places e =
+    let parts = given-append-none (patternTests P k method) (sizeTests bytes places) (pattern-numbered P k method) e in
+    record { pattern-right = parts .0; size = size-taken bytes places (parts .1) }
+
+-- ---- 8
+
 -- what it says that none of 6, 7 and 8 applies
 pub record ChunkTaken (n bytes places : ℕ) : Type 0 where
   pub size : SizeTaken bytes places
@@ -362,6 +382,16 @@ pub search-fresh : (P : List ℕ) (k method : ℕ) → given (searchTests P k me
 unfolding searchTests
 search-fresh P k method =
     given-first (patternTests P k method) (tailTests (length P) 0 0) (pattern-numbered P k method) (λ e. tail-right (length P) 0 0 (omega arith))
+
+-- ---- 10: it is given exactly where there are more bytes than places
+
+pub buffer-short : (places bytes : ℕ) → places < bytes → given (bufferTests places bytes) ≡ 10
+unfolding bufferTests given
+buffer-short places bytes short = rw (lt-ltb places bytes short) refl
+
+pub buffer-fits : (places bytes : ℕ) → bytes ≤ places → given (bufferTests places bytes) ≡ 0
+unfolding bufferTests given
+buffer-fits places bytes room = rw (le-ltb places bytes room) refl
 
 -- ---- 6 and 11 of the program
 

@@ -3,10 +3,9 @@ use mathlib.Core.Path.{_≡_, refl, sym, ap, _∙_}
 use mathlib.Core.Bool.{Bool, true, false}
 use mathlib.Core.List.{List, [], _∷_, _++_, map}
 use mathlib.Core.Logic.{⊎-elim}
-use Prim.Native.Nat.{ℕ, zero, suc, _+_, _-_, _*_, _≤_, _<_, suc-le-suc}
-use native.Mathlib.Nat.{le-refl, mul-suc, le-step, add-zero, add-suc, suc-add, add-assoc, zero-add, suc-sub-suc, zero-sub, sub-zero}
+use Prim.Native.Nat.{ℕ, zero, suc, _+_, _-_, _*_, _≤_, _<_, min, suc-le-suc}
+use native.Mathlib.Nat.{mul-suc, le-step, add-zero, add-suc, suc-add, add-assoc, zero-add, suc-sub-suc, zero-sub, sub-zero}
 use native.Mathlib.Omega.{arith}
-use lib.Dec.{ltb}
 use lib.ListN.{length, getD, drop, length-take, length-append}
 use lib.Seq.{getD-at}
 use borrow.Author.Tests.{lt-ltb, le-ltb}
@@ -132,16 +131,21 @@ unfolding through
 through-free zero s left l h = absurd (omega arith)
 through-free (suc places) s left l h = rw (le-ltb places (length l) (omega arith)) refl
 
--- there is a place for every window start
-pub through-room : {s left : ℕ} {l : List ℕ} → Within s left l → (places : ℕ) → left ≤ places → through places s left l ≡ left
+-- it goes through all of the window starts or at least as many as it has places, and no further than the last
+pub through-between : {s left : ℕ} {l : List ℕ} → Within s left l → (places : ℕ)
+    → (min places left ≤ through places s left l) × (through places s left l ≤ left)
 unfolding through
-through-room {s} {left} {l} h zero room = omega arith
-through-room {s} {left} {l} h (suc places) room =
+through-between h zero = (omega arith, omega arith)
+through-between {s} {left} {l} h (suc places) =
     ⊎-elim
     (λ (full : places < length l).
     let last = within-least h places full in
-    rw (lt-ltb places (length l) full) (omega (arith, last .0, last .1, within-count h))) (λ (free : length l ≤ places). rw (le-ltb places (length l) free) refl)
-    (below-or-not places (length l))
+    rw (lt-ltb places (length l) full) (omega (arith, last .0), omega (arith, last .1)))
+    (λ (free : length l ≤ places). rw (le-ltb places (length l) free) (omega arith, omega arith)) (below-or-not places (length l))
+
+-- there is a place for every window start
+pub through-room : {s left : ℕ} {l : List ℕ} → Within s left l → (places : ℕ) → left ≤ places → through places s left l ≡ left
+through-room h places room = omega (arith, through-between h places)
 
 -- the window at p takes the last place
 pub through-last : (before : List ℕ) (p : ℕ) (after l : List ℕ) (s left places : ℕ) → l ≡ before ++ (p ∷ after) → places ≡ suc (length before)

@@ -8,13 +8,14 @@ use Prim.Native.Nat.{ℕ, zero, suc, _+_, _-_, _*_, _≤_, _<_}
 use native.Mathlib.Nat.{le-refl, le-trans, mul-suc}
 use native.Mathlib.Omega.{arith}
 use lib.Dec.{eqb}
-use lib.ListN.{length}
+use lib.ListN.{length, getD, List·getD-eq-default}
 use borrow.Author.Tests.{leb-true, le-leb}
 use Rattle.jumbled.specs.Match.{excess, matches, window, starts, select, positions}
 use Rattle.jumbled.specs.Scan.{Result, nothing, Judged, unverified, backward, forward}
 use Rattle.jumbled.specs.Heap.{heapSum, exact}
 use Rattle.jumbled.specs.Steps.{countJudged, hcamJudged, verified, verifiedStarts, steps}
 use Rattle.jumbled.proofs.Sums.{below-or-not}
+use Rattle.jumbled.proofs.Selections.{select-few, select-inside}
 
 -- Each number is over those before it, and none is below `least`
 pub data Ascending : ℕ → List ℕ → Type 0 where
@@ -159,3 +160,21 @@ no-windows P k method T empty = rw empty (simp either)
 -- which is where n < m
 pub no-inspections : (P : List ℕ) (k method : ℕ) (T : List ℕ) → length T < length P → steps P k method T ≡ nothing
 no-inspections P k method T h = no-windows P k method T (omega arith)
+
+-- ---- the positions are few, and small
+
+pub positions-few : (P : List ℕ) (k : ℕ) (T : List ℕ) → length (positions P k T) ≤ suc (length T) - length P
+unfolding positions
+positions-few P k T = select-few _ 0 (suc (length T) - length P)
+
+-- the window at a position lies in the text
+pub positions-inside : (P : List ℕ) (k : ℕ) (T : List ℕ) (i : ℕ) → i < length (positions P k T) → getD (positions P k T) i 0 + length P ≤ length T
+unfolding positions
+positions-inside P k T i l =
+    let below = select-inside (λ s. matches P k (window (length P) T s)) 0 (suc (length T) - length P) i l in
+    omega arith
+
+pub positions-below : (P : List ℕ) (k : ℕ) (T : List ℕ) (n : ℕ) → length T < n → (i : ℕ) → getD (positions P k T) i 0 < n
+positions-below P k T n l i =
+    ⊎-elim (λ (inside : i < length (positions P k T)). omega (arith, positions-inside P k T i inside))
+    (λ (outside : length (positions P k T) ≤ i). omega (arith, List·getD-eq-default (positions P k T) 0 outside)) (below-or-not i (length (positions P k T)))

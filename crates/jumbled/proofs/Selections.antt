@@ -1,4 +1,4 @@
--- Laws of `select`: a range cut in two, tests that agree, tests that nothing passes, and how many pass; laws of `anyOf`, and lengths that are all alike.
+-- Laws of `select`: a range cut in two, tests that agree, tests that nothing passes, how many pass and how large they are; laws of `anyOf`, and lengths that are all alike.
 use mathlib.Core.Path.{_≡_, refl, sym, ap, ap₂, _∙_}
 use mathlib.Core.Bool.{Bool, true, false, cond, not, _||_}
 use mathlib.Core.List.{List, [], _∷_, _++_}
@@ -50,6 +50,19 @@ select-few test s (suc count) = pick (test s) (select-few test (suc s) count)
         → length (cond t (s ∷ select test (suc s) count) (select test (suc s) count)) ≤ suc count
     pick true h = omega arith
     pick false h = omega arith
+
+-- and each of them is below the range's end
+pub select-inside : (test : ℕ → Bool) (s count i : ℕ) → i < length (select test s count) → getD (select test s count) i 0 < s + count
+unfolding select
+select-inside test s zero i l = omega arith
+select-inside test s (suc count) i l = pick (test s) (select-inside test (suc s) count) i l
+  where
+    pick : (t : Bool) → ((j : ℕ) → j < length (select test (suc s) count) → getD (select test (suc s) count) j 0 < suc s + count)
+        → (j : ℕ) → j < length (cond t (s ∷ select test (suc s) count) (select test (suc s) count))
+        → getD (cond t (s ∷ select test (suc s) count) (select test (suc s) count)) j 0 < s + suc count
+    pick true h zero j-below = omega arith
+    pick true h (suc j) j-below = omega (arith, h j (omega arith))
+    pick false h j j-below = omega (arith, h j j-below)
 
 -- ---- anyOf
 

@@ -118,7 +118,7 @@ tailTests m n t = test 9 (not (eqb t (tailLength m n))) ∷ []
 unfoldable pub formTests : (badForm : Bool) → List Test
 formTests badForm = test 9 badForm ∷ []
 
--- 10, of a buffer of so many places and an image of so many bytes
+-- 10, of a buffer of so many places and of so many bytes to be written into it: an image's, or a sheet's (document 02, T-02)
 unfoldable pub bufferTests : (places bytes : ℕ) → List Test
 bufferTests places bytes = test 10 (ltb places bytes) ∷ []
 
@@ -143,6 +143,10 @@ sizeTests bytes places = textTests bytes ++ placeTests bytes places
 -- Whole search: 1 to 7
 unfoldable pub wholeTests : List ℕ → ℕ → ℕ → (bytes places : ℕ) → List Test
 wholeTests P k method bytes places = patternTests P k method ++ sizeTests bytes places
+
+-- A whole search and its sheet of so many bytes, for a buffer of so many places (document 02, T-02): 1 to 7, then 10
+unfoldable pub sheetTests : List ℕ → ℕ → ℕ → (bytes places bufferPlaces bytesOnPaper : ℕ) → List Test
+sheetTests P k method bytes places bufferPlaces bytesOnPaper = wholeTests P k method bytes places ++ bufferTests bufferPlaces bytesOnPaper
 
 -- Several patterns and k (document 02, T-01): 1 for every pattern, 12, 2
 unfoldable pub severalPatternTests : (lengths : List ℕ) (patternBytes k : ℕ) → List Test

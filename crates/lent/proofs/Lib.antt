@@ -1,3 +1,4 @@
 pub mod Placing
 pub mod Listing
 pub mod Writing
+pub mod Pieces

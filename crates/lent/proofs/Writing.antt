@@ -1,4 +1,4 @@
--- Laws of what a writer yields: nothing, two writes in a row, one byte more, and the buffer's length.
+-- Laws of what a writer yields: nothing, two writes in a row or the other way round, one byte more, and the buffer's length.
 use mathlib.Core.Path.{_≡_, sym, ap, ap₂, _∙_}
 use mathlib.Core.List.{List, [], _∷_, _++_}
 use Prim.Native.Nat.{ℕ, _+_, _≤_, _<_}
@@ -8,7 +8,7 @@ use native.Mathlib.Omega.{arith}
 use lib.ListN.{length, getD, take, set, length-append}
 use lib.Seq.{length-take-le, take-suc}
 use Rattle.lent.specs.Placed.{placed}
-use Rattle.lent.proofs.Placing.{placed-nil, length-placed, placed-placed, placed-next}
+use Rattle.lent.proofs.Placing.{placed-nil, length-placed, placed-placed, placed-front, placed-next}
 use Rattle.lent.specs.Written.{Written}
 
 pub written-none : (b : List ℕ) (at : ℕ) → Written b at [] b at
@@ -26,6 +26,17 @@ written-then {b} {at} {U} {W = W} first second room =
           second .filled ∙ ap₂ (λ (c : List ℕ) (n : ℕ). placed c n W) (first .filled) (first .place)
           ∙ placed-placed b at U room W;
       place = omega (arith, first .place, second .place, length-append U W);
+    }
+
+-- in the other order: what stands first is written last
+pub written-front : {b : List ℕ} {at place : ℕ} {W middle : List ℕ} {next : ℕ} {U after : List ℕ} {end : ℕ}
+    → Written b place W middle next → Written middle at U after end → place ≡ at + length U → at + length (U ++ W) ≤ length b → Written b at (U ++ W) after next
+written-front {b} {at} {place} {W} {U = U} later front meet room =
+    record {
+      filled =
+          front .filled ∙ ap (λ (c : List ℕ). placed c at U) (later .filled ∙ ap (λ (n : ℕ). placed b n W) meet)
+          ∙ placed-front b at U W room;
+      place = omega (arith, later .place, meet, length-append U W);
     }
 
 -- where two lists fit, the first does

@@ -1,3 +1,2 @@
 -- The laws of the definitions that the functions' proofs cite.
-pub mod Decimals
 pub mod Lines

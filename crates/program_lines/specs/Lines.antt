@@ -1,18 +1,22 @@
 -- The lines that the program prints: document 01, "The program".
 use Prim.Native.Nat.{ℕ}
-use mathlib.Core.List.{List, [], _∷_, _++_}
+use mathlib.Core.List.{List, _++_, flatMap}
 use lib.ListN.{length}
 use Rattle.lent.specs.Written.{Written}
-use Rattle.program_lines.specs.Decimal.{ascii, decimal, numberLine}
+use Rattle.ascii.specs.Codes.{ascii}
+use Rattle.ascii.specs.Decimal.{decimal}
+
+-- n, and the newline that ends its line. Each line of the output has a number at its end, so this is how it ends.
+unfoldable pub numberLine : ℕ → List ℕ
+numberLine n = decimal n ++ ascii "\n"
 
 -- The first line: the pattern, the method and k of the request
 unfoldable pub header : List ℕ → ℕ → ℕ → List ℕ
 header P k method = ascii "mix " ++ P ++ ascii " method " ++ decimal method ++ ascii " k " ++ numberLine k
 
 -- A line for each position
-unfoldable pub positionLines : List ℕ → List ℕ
-positionLines [] = []
-positionLines (p ∷ ps) = numberLine p ++ positionLines ps
+abbrev pub positionLines : List ℕ → List ℕ
+positionLines ps = flatMap numberLine ps
 
 -- The last line: how many positions, and how many inspections
 unfoldable pub countsLine : ℕ → ℕ → List ℕ

@@ -5,8 +5,8 @@ ghost use mathlib.Core.List.{_++_};
 ghost use Prim.Native.Nat.{_+_, _≤_};
 ghost use lib.ListN.{length, take};
 ghost use Rattle.lent.specs.Written.{Written};
-ghost use Rattle.program_lines.specs.Decimal.{decimal, numberLine};
-ghost use Rattle.program_lines.specs.Lines.{header, positionLines, countsLine, refusalText, outputText, OutputWritten};
+ghost use Rattle.ascii.specs.Decimal.{decimal};
+ghost use Rattle.program_lines.specs.Lines.{numberLine, header, positionLines, countsLine, refusalText, outputText, OutputWritten};
 use lent::copy_in;
 
 // Writes n in base ten. The digits in front of the last one are those of n / 10.

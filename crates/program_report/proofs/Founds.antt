@@ -2,24 +2,24 @@
 use mathlib.Core.Path.{_≡_, refl, sym, ap, ap₂, _∙_}
 use mathlib.Core.List.{List}
 use Prim.Native.Nat.{ℕ, _+_, _≤_}
-use native.Mathlib.Nat.{zero-add, le-trans}
+use native.Mathlib.Nat.{le-trans}
 use native.Mathlib.Omega.{arith}
 use lib.ListN.{length, take}
 use borrow.Author.Tests.{eq-eqb, ne-eqb}
 use Rattle.jumbled.specs.Match.{positions}
 use Rattle.jumbled.specs.Steps.{steps}
 use Rattle.jumbled.specs.Refusals.{given, patternTests, sizeTests, wholeTests}
-use Rattle.jumbled.proofs.Admission.{given-first, pattern-numbered, size-fits, Admitted, admitted}
+use Rattle.jumbled.proofs.Admission.{given-first, pattern-numbered, size-fits}
 use Rattle.lent.specs.Placed.{placed}
-use Rattle.lent.proofs.Placing.{length-placed, take-placed}
 use Rattle.answers.specs.Numbers.{numberOf}
 use Rattle.answers.specs.declared.Refusal.{Refusal}
 use Rattle.answers.specs.declared.Answer.the-variants.{Listed, Refused}
 use Rattle.search_whole.specs.Whole.{wholeNumber, Whole}
+use Rattle.search_whole.proofs.Places.{pattern-admitted, places-enough, places-first}
 use Rattle.answers.proofs.Refused.{number-positive, number-small, on-accepted}
 use Rattle.program_lines.specs.Lines.{outputText, refusalText}
 use Rattle.program_report.specs.Output.{answerText}
-use Rattle.program_report.proofs.Room.{refusal-room, positions-few, found-room}
+use Rattle.program_report.proofs.Room.{refusal-room, found-room}
 
 -- there is room for the line of any refusal
 pub refused-fits : {number room : ℕ} (refusal : Refusal) → number ≡ numberOf refusal → 98416 ≤ room
@@ -60,21 +60,11 @@ module _ {P : List ℕ} {k method : ℕ} {T list after : List ℕ} {found inspec
   filled : after ≡ placed list 0 (positions P k T)
   filled = w .list ∙ sym (on-accepted (wholeNumber P k method T list) (placed list 0 (positions P k T)) list accepted)
 
-  request : Admitted P k method
-  request = admitted P k method admissible
-
-  room : 0 + length (positions P k T) ≤ length list
-  room =
-      let some = request .some in
-      omega (arith, positions-few P k T)
-
   pub found-inside : found ≤ length after
-  found-inside = omega (arith, found-is, room, ap length filled, length-placed list 0 (positions P k T) room)
+  found-inside = omega (arith, found-is, places-enough P k method T list accepted filled)
 
   listed-is : take found after ≡ positions P k T
-  listed-is =
-      ap₂ take (found-is ∙ sym (zero-add (length (positions P k T)))) filled
-      ∙ take-placed list 0 (positions P k T) room
+  listed-is = ap (λ (n : ℕ). take n after) found-is ∙ places-first P k method T list accepted filled
 
   -- what is printed then, and that there is room for it
   pub found-text : answerText P k method T ≡ outputText P k method (take found after) inspections
@@ -84,4 +74,4 @@ module _ {P : List ℕ} {k method : ℕ} {T list after : List ℕ} {found inspec
       (ap₂ (outputText P k method) (sym listed-is) (sym inspections-are))
 
   pub found-fits : {room : ℕ} → 98416 ≤ room → length (outputText P k method (take found after) inspections) ≤ room
-  found-fits most = rw (listed-is, inspections-are) (le-trans (found-room P k method T request fits) most)
+  found-fits most = rw (listed-is, inspections-are) (le-trans (found-room P k method T (pattern-admitted P k method T list accepted) fits) most)

@@ -4,11 +4,11 @@ use mathlib.Core.Bool.{true, true≢false}
 use mathlib.Core.List.{List, [], _∷_}
 use Prim.Native.Nat.{ℕ, _+_, _*_, _-_, _/_, _%_, _≤_, _<_}
 use native.Mathlib.Omega.{arith}
-use Rattle.program_request.specs.Line.{toleranceForm, decimalValue, methodField, toleranceField, goodLine}
+use Rattle.program_request.specs.Line.{toleranceForm, methodField, toleranceField, goodLine}
 use Rattle.program_request.proofs.Fields.{digit-least, digit-most, tolerance-zero, tolerance-digits, method-tolerance, spelled-one, spelled-two}
 use Rattle.program_request.proofs.Splits.{good-forms}
-use Rattle.program_lines.specs.Decimal.{decimal}
-use Rattle.program_lines.proofs.Decimals.{decimal-small, decimal-large}
+use Rattle.ascii.specs.Decimal.{decimal, decimalValue}
+use Rattle.ascii.proofs.Decimals.{decimal-small, decimal-large}
 
 -- the two digits of a number of two
 two-digits : (x y : ℕ) → 1 ≤ x → x < 10 → y < 10 → decimal (x * 10 + y) ≡ (48 + x) ∷ (48 + y) ∷ []

@@ -1,18 +1,18 @@
 -- How much the program prints: a buffer of 98,416 bytes has room for the output of every input. And how much of its input it has to read.
 use mathlib.Core.Path.{_≡_, sym, ap, _∙_}
-use mathlib.Core.Bool.{Bool, true, false, cond}
-use mathlib.Core.List.{List, _∷_}
+use mathlib.Core.Bool.{false}
+use mathlib.Core.List.{List}
 use mathlib.Core.Logic.{⊎-elim}
-use Prim.Native.Nat.{ℕ, zero, suc, _+_, _-_, _≤_, _<_}
+use Prim.Native.Nat.{ℕ, _+_, _≤_, _<_}
 use native.Mathlib.Omega.{arith}
-use lib.ListN.{length, getD, take}
+use lib.ListN.{length, take}
 use lib.Seq.{length-take-le, take-all}
-use Rattle.jumbled.specs.Match.{select, positions}
+use Rattle.jumbled.specs.Match.{positions}
 use Rattle.jumbled.specs.Steps.{steps}
 use Rattle.jumbled.specs.Refusals.{requestTests, programTests}
 use Rattle.jumbled.proofs.Admission.{given-append-none, Admitted, admitted, request-taken, request-numbered}
 use Rattle.jumbled.proofs.Sums.{below-or-not}
-use Rattle.jumbled.proofs.Selections.{select-few}
+use Rattle.jumbled.proofs.Positions.{positions-few, positions-below}
 use Rattle.lent.specs.Written.{Written}
 use Rattle.lent.proofs.Writing.{written-length}
 use Rattle.program_request.specs.Request.{requestMethod, requestTolerance, requestPattern, requestText, badLine}
@@ -24,28 +24,6 @@ use Rattle.program_report.specs.Output.{requestRefusal, output}
 use Rattle.program_report.specs.Reads.{inputRoom, ReadInto, FirstBytes, ReportsRead}
 use Rattle.program_report.proofs.Answers.{output-early, output-found, output-refused, refusal-small}
 use Rattle.program_report.proofs.Inspections.{steps-few}
-
--- ---- the positions are few, and small
-
-module _ (test : ℕ → Bool) where
-  select-below : (s count n : ℕ) → s + count < n → (i : ℕ) → getD (select test s count) i 0 < n
-  unfolding select
-  select-below s zero n l i = omega arith
-  select-below s (suc count) n l i = pick (test s) (select-below (suc s) count n (omega arith)) i
-    where
-      pick : (t : Bool) → ((j : ℕ) → getD (select test (suc s) count) j 0 < n)
-          → (j : ℕ) → getD (cond t (s ∷ select test (suc s) count) (select test (suc s) count)) j 0 < n
-      pick true h zero = omega arith
-      pick true h (suc j) = h j
-      pick false h j = h j
-
-pub positions-few : (P : List ℕ) (k : ℕ) (T : List ℕ) → length (positions P k T) ≤ suc (length T) - length P
-unfolding positions
-positions-few P k T = select-few _ 0 (suc (length T) - length P)
-
-positions-below : (P : List ℕ) (k : ℕ) (T : List ℕ) (n : ℕ) → suc (length T) < n → (i : ℕ) → getD (positions P k T) i 0 < n
-unfolding positions
-positions-below P k T n l = select-below _ 0 (suc (length T) - length P) n (omega arith)
 
 -- ---- what is not refused
 

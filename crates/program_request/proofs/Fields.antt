@@ -7,7 +7,8 @@ use native.Mathlib.Omega.{arith}
 use lib.Dec.{eqb, leb}
 use lib.ListN.{length, getD}
 use borrow.Author.Tests.{lt-leb, le-leb, leb-true, ne-eqb}
-use Rattle.program_request.specs.Line.{digit, methodForm, toleranceForm, decimalValue}
+use Rattle.ascii.specs.Decimal.{decimalValue}
+use Rattle.program_request.specs.Line.{digit, methodForm, toleranceForm}
 
 -- ---- a digit
 

@@ -1,10 +1,11 @@
 -- What `first_line` says in each case of its answer.
-use mathlib.Core.Path.{_≡_, refl, sym, ap, _∙_}
+use mathlib.Core.Path.{_≡_, refl, ap}
 use mathlib.Core.Bool.{Bool, true, false}
 use mathlib.Core.List.{List}
 use Prim.Native.Nat.{ℕ}
 use native.Mathlib.Omega.{arith}
-use Rattle.program_request.specs.Line.{decimalValue, methodField, toleranceField, goodLine}
+use Rattle.ascii.specs.Decimal.{decimalValue}
+use Rattle.program_request.specs.Line.{methodField, toleranceField, goodLine}
 use Rattle.program_request.specs.Reading.{LineParts, lineMeaning, lineParts, patternPlace}
 use Rattle.program_request.specs.declared.FirstLine.the-variants.{Bad, Fields}
 

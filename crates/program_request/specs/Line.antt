@@ -1,15 +1,9 @@
 -- The program's first line: document 01, "The program", as definitions on the line's bytes.
-use Prim.Native.Nat.{ℕ, _+_, _-_, _*_}
+use Prim.Native.Nat.{ℕ}
 use mathlib.Core.Bool.{Bool, true, false, cond, not, _&&_}
 use mathlib.Core.List.{List, [], _∷_}
 use lib.Dec.{leb, eqb}
-
--- ASCII codes
-abbrev pub space : ℕ
-space = 32
-
-abbrev pub zeroDigit : ℕ
-zeroDigit = 48
+use Rattle.ascii.specs.Codes.{space, zeroDigit}
 
 -- ---- a list of bytes, cut at the first c
 
@@ -46,11 +40,6 @@ toleranceForm [] = false
 toleranceForm (a ∷ []) = digit a
 toleranceForm (a ∷ b ∷ []) = digit a && not (eqb a zeroDigit) && digit b
 toleranceForm (a ∷ b ∷ c ∷ more) = false
-
--- The number that the digits of F spell, after digits that spell n. Of a list that is not of digits it is some number without meaning.
-unfoldable pub decimalValue : ℕ → List ℕ → ℕ
-decimalValue n [] = n
-decimalValue n (b ∷ F) = decimalValue (10 * n + (b - zeroDigit)) F
 
 -- ---- the fields: method, k and pattern, parted by spaces. All that follows is said of every line, which comes without its newline; where the line
 -- is bad, its fields have no meaning, and no answer depends on them.

@@ -1,10 +1,10 @@
 -- The answer of `first_line`: document 01's number and the values for each case of the enum, and what they have to be.
 use Prim.Native.Nat.{ℕ, _+_}
-use mathlib.Core.Path.{_≡_}
 use mathlib.Core.Bool.{cond}
 use mathlib.Core.List.{List}
 use lib.ListN.{length}
-use Rattle.program_request.specs.Line.{decimalValue, methodField, toleranceField, goodLine}
+use Rattle.ascii.specs.Decimal.{decimalValue}
+use Rattle.program_request.specs.Line.{methodField, toleranceField, goodLine}
 use Rattle.program_request.specs.declared.FirstLine.{FirstLine}
 use Rattle.program_request.specs.declared.FirstLine.the-variants.{Bad, Fields}
 

@@ -5,11 +5,9 @@ use mathlib.Core.List.{List}
 use lib.Dec.{eqb}
 use lib.ListN.{length, getD, take}
 use Rattle.jumbled.specs.Refusals.{given, requestTests}
-use Rattle.program_request.specs.Line.{has, beforeFirst, afterFirst, decimalValue, methodField, toleranceField, patternField, goodLine}
-
--- ASCII code
-abbrev pub newline : ℕ
-newline = 10
+use Rattle.ascii.specs.Codes.{newline}
+use Rattle.ascii.specs.Decimal.{decimalValue}
+use Rattle.program_request.specs.Line.{has, beforeFirst, afterFirst, methodField, toleranceField, patternField, goodLine}
 
 -- ---- what the input asks for
 

@@ -1,5 +1,6 @@
 -- Which call each kind of case asks for, and what the call comes to (tools/vectors_stream.py, "Operations"). What a call gives is said by its own
--- record: `Whole` of search_whole, `WholeSeveral` of several, and `Opened`, `Feeds`, `SetsMethod`, `Saves` and `Loads` of search.
+-- record: `Whole` of search_whole, `WholeSeveral` of several, `WholeSheet` of sheet, and `Opened`, `Feeds`, `SetsMethod`, `Saves` and `Loads` of
+-- search.
 use mathlib.Core.Path.{_≡_}
 use mathlib.Core.Bool.{cond}
 use mathlib.Core.List.{List, [], _++_}
@@ -11,10 +12,14 @@ use Rattle.jumbled.specs.Fields.{layoutOf, bits}
 use Rattle.jumbled.specs.Heap.{exact}
 use Rattle.answers.specs.Numbers.{admissionNumber}
 use Rattle.answers.specs.Answers.{answerNumber, answerFound, answerInspections, savingNumber, savingLength}
+use Rattle.answers.specs.Answers.{sheetNumber, sheetFound, sheetInspections, sheetLength}
 use Rattle.answers.specs.declared.Answer.{Answer}
+use Rattle.answers.specs.declared.SheetAnswer.{SheetAnswer}
+use Rattle.image_form.specs.Image.{lowFirst}
 use Rattle.table_parikh.specs.Table.{tabulate}
 use Rattle.search_whole.specs.Whole.{Whole}
 use Rattle.several.specs.Whole.{WholeSeveral}
+use Rattle.sheet.specs.Whole.{WholeSheet}
 use Rattle.search.specs.declared.Search.{Search}
 use Rattle.search.specs.declared.SearchResult.{SearchResult}
 use Rattle.search.specs.declared.FeedResult.{FeedResult}
@@ -23,7 +28,7 @@ use Rattle.search.specs.Calls.{Opened, Feeds, SetsMethod, Saves, Loads}
 use Rattle.program_report.specs.Output.{output}
 use Rattle.tests_stream.specs.Fillings.{knownPlace, knownByte}
 use Rattle.tests_stream.specs.Cases.{fieldsOf}
-use Rattle.tests_stream.specs.Patterns.{numberPlaces, patternLengths, patternBytes}
+use Rattle.tests_stream.specs.Patterns.{lentPlaces, patternLengths, patternBytes, markedPattern}
 use Rattle.tests_stream.specs.declared.cases.Case.{Case}
 use Rattle.tests_outcomes.specs.Digests.{digest, listBytes}
 use Rattle.tests_outcomes.specs.Outcomes.{outcomeOf}
@@ -49,6 +54,11 @@ numberOutcome a = outcomeOf 0 a 0 0
 -- a search of a text or a chunk: the number, found and inspections, and a digest
 abbrev pub answerOutcome : ℕ → Answer → Outcome
 answerOutcome digested answer = outcomeOf (answerNumber answer) (answerFound answer) (answerInspections answer) digested
+
+-- a search with its marked sheet, which left a list and a buffer of these bytes: the sheet's length is digested after them
+abbrev pub sheetOutcome : List ℕ → SheetAnswer → Outcome
+sheetOutcome U answer =
+    outcomeOf (sheetNumber answer) (sheetFound answer) (sheetInspections answer) (digest 0 (U ++ lowFirst 8 (sheetLength answer)))
 
 -- the digest of the bytes that a call left in a list or a buffer, and then of the search
 abbrev pub digestWith : List ℕ → Search → ℕ
@@ -83,8 +93,18 @@ pub record SeveralMade (handed : List ℕ) (k : ℕ) (T before after : List ℕ)
   pub numbers : List ℕ
   pub came :
       Came
-      (WholeSeveral (patternBytes handed) (patternLengths handed) k T before after (tabulate (numberPlaces handed) knownPlace) numbers)
+      (WholeSeveral (patternBytes handed) (patternLengths handed) k T before after (tabulate (lentPlaces handed) knownPlace) numbers)
       (answerOutcome (digest 0 (listBytes after ++ listBytes numbers)))
+      got
+
+-- A search for the pattern that a case hands over, with its marked sheet and with a list that held `before` and holds `after`. The sheet's buffer is
+-- made for it, and filled like that of a save.
+pub record MarkedMade (handed : List ℕ) (k method : ℕ) (T before after : List ℕ) (got : Outcome) : Type 0 where
+  pub buffer : List ℕ
+  pub came :
+      Came
+      (WholeSheet (markedPattern handed) k method T before after (tabulate (lentPlaces handed) knownByte) buffer)
+      (sheetOutcome (listBytes after ++ buffer))
       got
 
 -- mixlist's output: its length, and the digest of it
@@ -99,16 +119,17 @@ widthNumber P k method = cond (ltb 64 (length P)) 0 (cond (ltb 64 k) 0 (bits P (
 unfoldable pub exactNumber : List ℕ → ℕ
 exactNumber P = cond (ltb 64 (length P)) 0 (bit (exact P))
 
--- The calls that no search is handed to, by the kind of the case: whole search (1), mixlist (8), the bits (9), exact (10) and several patterns (11).
--- Only the two that search a text change the list.
+-- The calls that no search is handed to, by the kind of the case: whole search (1), mixlist (8), the bits (9), exact (10), several patterns (11) and a
+-- search with its marked sheet (12). Only the three that search a text change the list.
 unfoldable pub OutcomeMade : (op : ℕ) (P : List ℕ) (k method : ℕ) (T before after : List ℕ) → Outcome → Type 0
 OutcomeMade op P k method T before after got =
     cond (eqb op 1) (Came (Whole P k method T before after) (answerOutcome (digest 0 (listBytes after))) got)
     (cond (eqb op 11) (SeveralMade P k T before after got)
+    (cond (eqb op 12) (MarkedMade P k method T before after got)
     ((after ≡ before)
     × (got
     ≡ cond (eqb op 8) (reportOutcome T)
-    (cond (eqb op 9) (numberOutcome (widthNumber P k method)) (numberOutcome (exactNumber P))))))
+    (cond (eqb op 9) (numberOutcome (widthNumber P k method)) (numberOutcome (exactNumber P)))))))
 
 -- Such a call leaves the search as it was
 pub record Beside (Made : Outcome → Type 0) (s : Search) (called : Called) : Type 0 where

@@ -6,15 +6,18 @@ ghost use lib.ListN.{length};
 ghost use Rattle.search.specs.Calls.{Feeds, Saves};
 ghost use Rattle.search_whole.specs.Whole.{Whole};
 ghost use Rattle.several.specs.Whole.{WholeSeveral};
+ghost use Rattle.sheet.specs.Whole.{WholeSheet};
 ghost use Rattle.tests_outcomes.specs.Digests.{Digested, digest, listBytes};
 ghost use Rattle.tests_calls.specs.Calls.{Came, numberOutcome, answerOutcome, admissionCalled, feedCalled, saveCalled, SaveMade, knownBuffer};
-ghost use Rattle.tests_calls.specs.Calls.{SeveralMade, reportOutcome, widthNumber, exactNumber, OutcomeMade, CallMade};
+ghost use Rattle.tests_calls.specs.Calls.{SeveralMade, sheetOutcome, MarkedMade, reportOutcome, widthNumber, exactNumber};
+ghost use Rattle.tests_calls.specs.Calls.{OutcomeMade, CallMade};
 
 mod from_answers;
 mod searches;
 
 use from_answers::admitted;
 use from_answers::answered;
+use from_answers::marked;
 use from_answers::saved;
 use search::FeedResult;
 use search::SaveResult;
@@ -25,6 +28,7 @@ use searches::search_of;
 use tests_outcomes::Outcome;
 use tests_outcomes::digest_bytes;
 use tests_outcomes::digest_list;
+use tests_stream::byte_room;
 use tests_stream::cases::Case;
 use tests_stream::cases::HAND;
 use tests_stream::cases::read_fields;
@@ -32,7 +36,8 @@ use tests_stream::fill_buffer;
 use tests_stream::fill_list;
 use tests_stream::list_room;
 use tests_stream::patterns::MOST_LENGTHS;
-use tests_stream::patterns::number_places;
+use tests_stream::patterns::lent_places;
+use tests_stream::patterns::marked_pattern;
 use tests_stream::patterns::pattern_bytes;
 use tests_stream::patterns::read_lengths;
 
@@ -125,7 +130,7 @@ fn call_several(handed: &[u8], k: u8, text: &[u8], positions: &mut [u32]) -> Out
     let mut lengths = [0usize; MOST_LENGTHS];
     let count = read_lengths(handed, &mut lengths);
     let mut numbers = list_room();
-    let places = number_places(handed);
+    let places = lent_places(handed);
     fill_list(&mut numbers, places);
     several_into(
         pattern_bytes(handed),
@@ -151,6 +156,38 @@ fn several_into(
 {
     let answer = several::whole(patterns, lengths, k, text, positions, numbers);
     answered(answer, digest_list(digest_list(0, positions), numbers))
+}
+
+// Searches and writes the marked sheet. The list is filled already, and the sheet's buffer is made here.
+fn call_marked(handed: &[u8], k: u8, method: u8, text: &[u8], list: &mut [u32]) -> Outcome
+    ensures { λ r. ⌜ MarkedMade (now (handed .entry)) k method (now (text .entry)) (now (list .entry)) (now (list .exit)) r ⌝ }
+{
+    let mut bytes = byte_room();
+    let room = lent_places(handed);
+    fill_buffer(&mut bytes, room);
+    marked_into(
+        marked_pattern(handed),
+        k,
+        method,
+        text,
+        list,
+        &mut bytes[..room],
+    )
+}
+
+fn marked_into(
+    pattern: &[u8],
+    k: u8,
+    method: u8,
+    text: &[u8],
+    list: &mut [u32],
+    buffer: &mut [u8],
+) -> Outcome
+    ensures { λ r. ⌜ Came (WholeSheet (now (pattern .entry)) k method (now (text .entry)) (now (list .entry)) (now (list .exit))
+        (now (buffer .entry)) (now (buffer .exit))) (sheetOutcome (listBytes (now (list .exit)) ++ now (buffer .exit))) r ⌝ }
+{
+    let answer = sheet::whole(pattern, k, method, text, list, buffer);
+    marked(answer, digest_bytes(digest_list(0, list), buffer))
 }
 
 // A buffer for every output of mixlist's function.
@@ -222,6 +259,7 @@ fn call_without(op: u8, pattern: &[u8], k: u8, method: u8, text: &[u8], list: &m
         8 => call_report(text),
         9 => number_outcome(width_of(pattern, k, method)),
         11 => call_several(pattern, k, text, list),
+        12 => call_marked(pattern, k, method, text, list),
         _ => number_outcome(exact(pattern)),
     }
 }

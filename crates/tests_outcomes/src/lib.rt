@@ -33,7 +33,7 @@ pub fn digest_bytes(before: u64, bytes: &[u8]) -> u64
 }
 
 // A number in `width` bytes, low byte first.
-fn digest_number(before: u64, number: u64, width: usize) -> u64
+pub fn digest_number(before: u64, number: u64, width: usize) -> u64
     requires { ⌜ before < 72057594037927931 ⌝ }
     ensures { λ r. ⌜ Digested before (lowFirst width number) r ⌝ }
 {

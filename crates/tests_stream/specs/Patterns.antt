@@ -1,13 +1,14 @@
--- Several patterns, as a case hands them over: "u32 places of the list of pattern numbers, u8 count, that many u64 lengths, and then the bytes of the
--- patterns" (tools/vectors_stream.py). A number that can't be read is 0.
+-- What a case hands over in the text of its pattern: "u32 places of the list of pattern numbers, u8 count, that many u64 lengths, and then the bytes
+-- of the patterns", or "u32 bytes of the sheet's buffer, and then the pattern" (tools/vectors_stream.py). A number that can't be read is 0.
 use mathlib.Core.List.{List}
 use Prim.Native.Nat.{ℕ, _+_, _*_}
 use lib.ListN.{drop}
 use Rattle.table_parikh.specs.Table.{tabulate}
 use Rattle.tests_stream.specs.Reading.{numberAt}
 
-abbrev pub numberPlaces : List ℕ → ℕ
-numberPlaces handed = numberAt handed 0 4 65537 .value
+-- The places of either
+abbrev pub lentPlaces : List ℕ → ℕ
+lentPlaces handed = numberAt handed 0 4 65537 .value
 
 abbrev pub lengthCount : List ℕ → ℕ
 lengthCount handed = numberAt handed 4 1 16 .value
@@ -22,3 +23,7 @@ patternLengths handed = tabulate (lengthCount handed) (lengthAt handed)
 
 abbrev pub patternBytes : List ℕ → List ℕ
 patternBytes handed = drop (5 + 8 * lengthCount handed) handed
+
+-- The pattern of a search with its marked sheet
+abbrev pub markedPattern : List ℕ → List ℕ
+markedPattern handed = drop 4 handed

@@ -1,6 +1,6 @@
-// The stream of stored cases that the program vectors reads (tools/vectors_stream.py): made bytes, numbers and texts here, cases and several
-// patterns in a module each. An item that can't be read counts as 0 or as empty and leads to a place past the stream's end, and so does every item
-// after it: whoever reads a case asks once, at its end, whether all of it could be read.
+// The stream of stored cases that the program vectors reads (tools/vectors_stream.py): made bytes, numbers and texts here, cases and what they hand
+// over beside a pattern in a module each. An item that can't be read counts as 0 or as empty and leads to a place past the stream's end, and so does
+// every item after it: whoever reads a case asks once, at its end, whether all of it could be read.
 
 ghost use mathlib.Core.Path.{_≡_};
 ghost use Prim.Native.Nat.{_≤_};
@@ -21,6 +21,16 @@ pub fn list_room() -> [u32; LONGEST_LIST]
     ensures { λ r. ⌜ 65537 ≡ length r ⌝ }
 {
     [0; LONGEST_LIST]
+}
+
+// The longest text, and the longest buffer of a sheet.
+const LONGEST_BYTES: usize = 65537;
+
+// Room for either, whose length comes likewise.
+pub fn byte_room() -> [u8; LONGEST_BYTES]
+    ensures { λ r. ⌜ 65537 ≡ length r ⌝ }
+{
+    [0; LONGEST_BYTES]
 }
 
 // Each of the first places gets a number that tells which place it is, so that a place that a call should have left alone shows.

@@ -1,11 +1,11 @@
-// Several patterns, as a case hands them over in the text of its pattern (tools/vectors_stream.py): the places of the list of their numbers, their
-// lengths, and then their bytes.
+// The text of a pattern in the cases whose call has further arguments (tools/vectors_stream.py). For several patterns: the places of the list of their
+// numbers, their lengths, and their bytes. For a search with its marked sheet: the bytes of its buffer, and the pattern.
 ghost use mathlib.Core.Path.{_≡_};
 ghost use Prim.Native.Nat.{_≤_};
-ghost use lib.ListN.{length};
+ghost use lib.ListN.{length, drop};
 ghost use Rattle.tests_stream.specs.Fillings.{Filled};
 ghost use Rattle.tests_stream.specs.Reading.{numberAt};
-ghost use Rattle.tests_stream.specs.Patterns.{numberPlaces, lengthCount, lengthAt, patternBytes};
+ghost use Rattle.tests_stream.specs.Patterns.{lentPlaces, lengthCount, lengthAt, patternBytes, markedPattern};
 use crate::read_number;
 
 // The most lengths that a case hands over.
@@ -21,10 +21,10 @@ fn number_in(handed: &[u8], at: usize, width: usize, most: u64) -> usize
     number.value as usize
 }
 
-// How many places the list of numbers has.
-pub fn number_places(handed: &[u8]) -> usize
+// How many places the call is lent beside those of its list.
+pub fn lent_places(handed: &[u8]) -> usize
     ensures { λ r. ⌜ r ≤ 65537 ⌝ }
-    ensures { λ r. ⌜ r ≡ numberPlaces (now (handed .entry)) ⌝ }
+    ensures { λ r. ⌜ r ≡ lentPlaces (now (handed .entry)) ⌝ }
 {
     number_in(handed, 0, 4, 65537)
 }
@@ -52,10 +52,24 @@ pub fn read_lengths(handed: &[u8], lengths: &mut [usize]) -> usize
     count
 }
 
-// The bytes of the patterns: all that is left after the lengths.
+// All that is left after a place; nothing, where that is past the end.
+fn bytes_from(handed: &[u8], at: usize) -> &[u8]
+    ensures { λ r. ⌜ now r ≡ drop at (now (handed .entry)) ⌝ }
+{
+    let start = lent::least(at, handed.len());
+    &handed[start..]
+}
+
+// The bytes of several patterns, which follow the lengths.
 pub fn pattern_bytes(handed: &[u8]) -> &[u8]
     ensures { λ r. ⌜ now r ≡ patternBytes (now (handed .entry)) ⌝ }
 {
-    let start = lent::least(5 + 8 * length_count(handed), handed.len());
-    &handed[start..]
+    bytes_from(handed, 5 + 8 * length_count(handed))
+}
+
+// The one pattern of a search with its marked sheet.
+pub fn marked_pattern(handed: &[u8]) -> &[u8]
+    ensures { λ r. ⌜ now r ≡ markedPattern (now (handed .entry)) ⌝ }
+{
+    bytes_from(handed, 4)
 }

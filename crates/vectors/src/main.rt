@@ -13,15 +13,14 @@ use tests_outcomes::print_difference;
 use tests_outcomes::print_malformed;
 use tests_outcomes::print_tally;
 use tests_outcomes::read_outcome;
+use tests_stream::byte_room;
 use tests_stream::cases::HAND;
 use tests_stream::cases::read_case;
 use tests_stream::fill_list;
 use tests_stream::list_room;
 
-// The longest stream; what follows isn't read. The longest text of a case.
-const LONGEST_STREAM: usize = 524288;
-
-const LONGEST_CASE_TEXT: usize = 65537;
+// The longest stream; what follows isn't read.
+const LONGEST_STREAM: usize = 655360;
 
 // A case that was run: what its call came to, what is stored, the search that it left, and the place after it.
 struct Step {
@@ -38,19 +37,12 @@ struct Tally {
     differ: usize,
 }
 
-// Room for the longest text. Its length comes by a law, since the prover would count the bytes one by one.
-fn text_room() -> [u8; LONGEST_CASE_TEXT]
-    ensures { λ r. ⌜ 65537 ≡ length r ⌝ }
-{
-    [0; LONGEST_CASE_TEXT]
-}
-
 // Runs the case at a place. One that can't be read is run with what could be read of it, and leads to a place past the stream's end.
 fn run_case(stream: &[u8], at: usize, search: Search) -> Step
     ensures { λ r. ⌜ CaseRun (now (stream .entry)) at search r ⌝ }
 {
     let mut pattern = [0u8; 1024];
-    let mut text = text_room();
+    let mut text = byte_room();
     let mut list = list_room();
     let case = read_case(stream, at, &mut pattern, &mut text);
     let stored = read_outcome(stream, case.next, case.op != HAND);
@@ -124,9 +116,9 @@ fn run(stream: &[u8]) -> Tally
     tally
 }
 
-// Room for the longest stream.
+// Room for the longest stream. Its length comes by a law, since the prover would count the bytes one by one.
 fn stream_room() -> [u8; LONGEST_STREAM]
-    ensures { λ r. ⌜ 524288 ≡ length r ⌝ }
+    ensures { λ r. ⌜ 655360 ≡ length r ⌝ }
 {
     [0; LONGEST_STREAM]
 }

@@ -1,10 +1,10 @@
 -- `image_write::encode` meets its contract: the first byte, the entries and the bodies, each written after the other.
 use mathlib.Core.Path.{_≡_, ap, _∙_}
-use mathlib.Core.List.{List}
+use mathlib.Core.List.{List, flatMap}
 use Prim.Native.Nat.{ℕ, _≤_}
 use native.Mathlib.Omega.{arith}
 use lib.ListN.{length}
-use Rattle.image_form.specs.Image.{body, partsWith, each, saveOrder}
+use Rattle.image_form.specs.Image.{body, partsWith, saveOrder}
 use Rattle.image_write.specs.Bodies.{bodyFrom}
 use Rattle.image_form.proofs.Numbers.{length-lowFirst}
 use Rattle.image_form.proofs.Images.{length-entries, length-in-order, save-order}
@@ -69,7 +69,7 @@ put-bodies-requires c κs =
             arith,
             length-entries f saveOrder,
             save-order .four,
-            ap (λ (g : ℕ → List ℕ). length (each g saveOrder)) (bodies-written (c .before .before .before .before .before .before .before .before .before .before .before .before)),
+            ap (λ (g : ℕ → List ℕ). length (flatMap g saveOrder)) (bodies-written (c .before .before .before .before .before .before .before .before .before .before .before .before)),
             length-in-order (partsWith (args .pattern .now) (args .k) (args .method) (args .total) (args .tail .now)) save-order,
             first .place,
             second .place,

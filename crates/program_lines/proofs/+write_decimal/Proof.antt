@@ -2,9 +2,9 @@
 use Prim.Native.Nat.{ℕ, _+_, _/_, _<_}
 use native.Mathlib.Omega.{arith}
 use lib.ListN.{length, length-set}
-use Rattle.program_lines.specs.Decimal.{decimal}
+use Rattle.ascii.specs.Decimal.{decimal}
 use Rattle.lent.proofs.Writing.{written-byte, written-length, written-inside, written-more}
-use Rattle.program_lines.proofs.Decimals.{decimal-small, decimal-large, length-decimal-small, length-decimal-large}
+use Rattle.ascii.proofs.Decimals.{decimal-small, decimal-large, length-decimal-small, length-decimal-large}
 use borrow.Fn.Kinds.{In}
 use borrow.Fn.PlainCycle.{Measures, is, falls, and}
 use Rattle.program_lines.proofs.write_decimal.Reads as write-decimal

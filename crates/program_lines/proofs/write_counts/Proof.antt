@@ -3,7 +3,9 @@ use borrow.Author.Needs.{needs}
 use mathlib.Core.List.{_++_}
 use Prim.Native.Nat.{_+_, _≤_}
 use lib.ListN.{length}
-use Rattle.program_lines.specs.Decimal.{ascii, decimal, numberLine}
+use Rattle.ascii.specs.Codes.{ascii}
+use Rattle.ascii.specs.Decimal.{decimal}
+use Rattle.program_lines.specs.Lines.{numberLine}
 use Rattle.lent.proofs.Writing.{first-fits, second-fits, written-then}
 use Rattle.program_lines.proofs.Lines.{counts-parts}
 use Rattle.program_lines.proofs.write_counts.Statement.{statement}

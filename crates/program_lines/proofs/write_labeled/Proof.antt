@@ -1,7 +1,7 @@
 -- `program_lines::write_labeled` meets its contract: the number stands after the word.
 use borrow.Author.Needs.{needs}
 use denote.Ref.{now}
-use Rattle.program_lines.specs.Decimal.{decimal}
+use Rattle.ascii.specs.Decimal.{decimal}
 use Rattle.lent.proofs.Writing.{first-fits, second-fits, written-then}
 use Rattle.program_lines.proofs.write_labeled.Statement.{statement}
 use Rattle.program_lines.proofs.write_labeled.Tie as tie

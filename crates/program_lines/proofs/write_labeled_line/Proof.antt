@@ -4,7 +4,9 @@ use mathlib.Core.List.{List, [], _∷_, _++_, append-assoc}
 use Prim.Native.Nat.{ℕ, _+_, _<_}
 use native.Mathlib.Omega.{arith}
 use lib.ListN.{length, length-append, length-set}
-use Rattle.program_lines.specs.Decimal.{ascii, decimal, numberLine}
+use Rattle.ascii.specs.Codes.{ascii}
+use Rattle.ascii.specs.Decimal.{decimal}
+use Rattle.program_lines.specs.Lines.{numberLine}
 use Rattle.lent.proofs.Writing.{written-length, written-inside, written-more}
 use Rattle.program_lines.proofs.write_labeled_line.Statement.{statement}
 use Rattle.program_lines.proofs.write_labeled_line.Tie as tie

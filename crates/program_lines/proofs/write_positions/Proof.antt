@@ -5,11 +5,10 @@ use mathlib.Core.List.{_++_}
 use Prim.Native.Nat.{_+_, _≤_, _-_}
 use native.Mathlib.Omega.{arith}
 use lib.ListN.{length, getD, take}
-use Rattle.program_lines.specs.Decimal.{numberLine}
-use Rattle.program_lines.specs.Lines.{positionLines}
+use Rattle.program_lines.specs.Lines.{numberLine, positionLines}
 use Rattle.lent.specs.Written.{Written}
 use Rattle.lent.proofs.Writing.{written-none, written-length, written-then, first-fits, second-fits}
-use Rattle.program_lines.proofs.Lines.{positions-none, positions-more, positions-room}
+use Rattle.lent.proofs.Pieces.{pieces-none, pieces-more, pieces-room}
 use Rattle.program_lines.proofs.write_positions.Statement.{statement}
 use Rattle.program_lines.proofs.write_positions.Tie as tie
 
@@ -21,7 +20,7 @@ abbrev μ-loop : tie.MeasureT-loop
 μ-loop list count buffer₀ at next₀ i₀ t7 buffer next i = count - i
 
 loop-holds : tie.Need-loop-holds Inv-loop μ-loop
-loop-holds c = (omega arith, rw positions-none (written-none _ _))
+loop-holds c = (omega arith, rw (pieces-none numberLine) (written-none _ _))
 
 slice-aggregate-write-labeled-line : tie.Need-slice-aggregate-write-labeled-line Inv-loop μ-loop
 slice-aggregate-write-labeled-line c = search needs
@@ -43,7 +42,7 @@ room : (c : tie.In-loop Inv-loop μ-loop)
     ≤ length (start .args .buffer .now)
 room c =
     let start = c .before .before .before .before in
-    positions-room (start .args .list .now) (c .before .loop .i) (start .args .count) (start .args .at) (omega arith) (start .pre .0) (start .pre .1)
+    pieces-room numberLine (start .args .list .now) (c .before .loop .i) (start .args .count) (start .args .at) (omega arith) (start .pre .0) (start .pre .1)
 
 write-labeled-line-requires : tie.Need-write-labeled-line-requires Inv-loop μ-loop
 write-labeled-line-requires c κs =
@@ -64,7 +63,7 @@ loop-again c =
     let i = turn .before .loop .i in
     let S = start .args .list .now in (
       omega arith,
-      rw (positions-more S i (omega arith))
+      rw (pieces-more numberLine S i (omega arith))
           (written-then (turn .before .loop .inv .1) (line .write-labeled-line .ensures)
           (first-fits (start .args .at) (positionLines (take i S)) (numberLine (getD S i 0)) (room turn))),
     )

@@ -1,6 +1,6 @@
 -- `program_lines::write_refusal` meets its contract.
 use borrow.Author.Needs.{needs}
-use Rattle.program_lines.specs.Decimal.{ascii}
+use Rattle.ascii.specs.Codes.{ascii}
 use Rattle.program_lines.specs.Lines.{refusalText}
 use Rattle.program_lines.proofs.write_refusal.Statement.{statement}
 use Rattle.program_lines.proofs.write_refusal.Tie as tie

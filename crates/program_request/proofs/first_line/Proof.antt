@@ -8,7 +8,8 @@ use mathlib.Core.List.{List}
 use Prim.Native.Nat.{ℕ, _+_, _-_, _≤_, _<_}
 use lib.ListN.{length, take, drop}
 use lib.Seq.{length-take-le}
-use Rattle.program_request.specs.Line.{decimalValue, methodForm, toleranceForm, methodField, toleranceField}
+use Rattle.ascii.specs.Decimal.{decimalValue}
+use Rattle.program_request.specs.Line.{methodForm, toleranceForm, methodField, toleranceField}
 use Rattle.program_request.specs.Reading.{patternPlace}
 use Rattle.program_request.proofs.Fields.{method-tolerance}
 use Rattle.program_request.proofs.Splits.{bad-no-space, bad-one-space, bad-method, bad-tolerance, good-all, space-within, no-space, one-space, method-is, tolerance-within, one-space-only, two-spaces, tolerance-is, pattern-at}

@@ -6,7 +6,7 @@ use Prim.Native.Nat.{ℕ}
 use Rattle.table_parikh.specs.Table.{tabulate}
 use Rattle.several.specs.Whole.{WholeSeveral}
 use Rattle.tests_stream.specs.Fillings.{knownPlace}
-use Rattle.tests_stream.specs.Patterns.{numberPlaces, lengthCount, lengthAt, patternBytes}
+use Rattle.tests_stream.specs.Patterns.{lentPlaces, lengthCount, lengthAt, patternBytes}
 use Rattle.tests_stream.proofs.Filling.{filled-part}
 use Rattle.tests_outcomes.specs.Digests.{digest, listBytes}
 use Rattle.tests_outcomes.specs.declared.Outcome.{Outcome}
@@ -17,7 +17,7 @@ use Rattle.tests_calls.proofs.call_several.Tie as tie
 -- what was handed to the search, and the list that was filled for it, are the case's
 several-made : (handed : List ℕ) {k count places : ℕ} {T before after bytes lengths filled numbers : List ℕ} {got : Outcome}
     → bytes ≡ patternBytes handed → lengths ≡ tabulate count (lengthAt handed) → count ≡ lengthCount handed
-    → filled ≡ tabulate places knownPlace → places ≡ numberPlaces handed
+    → filled ≡ tabulate places knownPlace → places ≡ lentPlaces handed
     → Came (WholeSeveral bytes lengths k T before after filled numbers) (answerOutcome (digest 0 (listBytes after ++ listBytes numbers))) got
     → SeveralMade handed k T before after got
 several-made handed bytes lengths count filled places came =
@@ -32,8 +32,8 @@ read-lengths-requires c κs = search needs
 list-room-requires : tie.Need-list-room-requires
 list-room-requires c κs = search needs
 
-number-places-requires : tie.Need-number-places-requires
-number-places-requires c κs = search needs
+lent-places-requires : tie.Need-lent-places-requires
+lent-places-requires c κs = search needs
 
 slice-aggregate-fill-list : tie.Need-slice-aggregate-fill-list
 slice-aggregate-fill-list c = search needs
@@ -67,10 +67,10 @@ returns c =
     let made : tie.After-several-into = c .before .before .before in
     let patterns : tie.After-pattern-bytes = made .before .before .before .before in
     let filled : tie.After-fill-list = patterns .before .before in
-    let places : tie.After-number-places = filled .before .before in
+    let places : tie.After-lent-places = filled .before .before in
     let lengths : tie.After-read-lengths = places .before .before .before in
     several-made _ (patterns .pattern-bytes .ensures) (filled-part (lengths .read-lengths .ensures .1)) (lengths .read-lengths .ensures .0)
-    (filled-part (filled .fill-list .ensures)) (places .number-places .ensures .1) (made .several-into .ensures)
+    (filled-part (filled .fill-list .ensures)) (places .lent-places .ensures .1) (made .several-into .ensures)
 
 pub call-several-spec : {M : Type 1} → statement M
 call-several-spec =
@@ -79,7 +79,7 @@ call-several-spec =
     slice-aggregate-read-lengths
     read-lengths-requires
     list-room-requires
-    number-places-requires
+    lent-places-requires
     slice-aggregate-fill-list
     fill-list-requires
     pattern-bytes-requires

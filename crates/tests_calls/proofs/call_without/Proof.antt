@@ -23,6 +23,9 @@ number-outcome-requires c κs = search needs
 call-several-requires : tie.Need-call-several-requires
 call-several-requires c κs = search needs
 
+call-marked-requires : tie.Need-call-marked-requires
+call-marked-requires c κs = search needs
+
 exact-requires : tie.Need-exact-requires
 exact-requires c κs = search needs
 
@@ -55,13 +58,28 @@ returns-4 c =
     let made : tie.After-call-several = c .before .before in
     rw (made .before .before .match .keys4) (made .call-several .ensures)
 
+same-length-3 : tie.Need-same-length-3
+same-length-3 c = search needs
+
 returns-5 : tie.Need-returns-5
 unfolding OutcomeMade
 returns-5 c =
+    let made : tie.After-call-marked = c .before .before in
+    rw (made .before .before .match .keys5) (made .call-marked .ensures)
+
+returns-6 : tie.Need-returns-6
+unfolding OutcomeMade
+returns-6 c =
     let arm : tie.At-match-rest = c .before .before in
     let op = arm .before .before .before .before .args .op in
     let none = arm .match .rest in
-    rw (ne-eqb op 1 (none .0 .0 .0 .1), ne-eqb op 8 (none .0 .0 .1), ne-eqb op 9 (none .0 .1), ne-eqb op 11 (none .1))
+    rw (
+      ne-eqb op 1 (none .0 .0 .0 .0 .1),
+      ne-eqb op 8 (none .0 .0 .0 .1),
+      ne-eqb op 9 (none .0 .0 .1),
+      ne-eqb op 11 (none .0 .1),
+      ne-eqb op 12 (none .1),
+    )
     (refl, rw (c .number-outcome2 .ensures, c .before .exact .ensures))
 
 pub call-without-spec : {M : Type 1} → statement M
@@ -73,6 +91,7 @@ call-without-spec =
     width-of-requires
     number-outcome-requires
     call-several-requires
+    call-marked-requires
     exact-requires
     number-outcome-requires-2
     same-length
@@ -81,4 +100,6 @@ call-without-spec =
     returns-3
     same-length-2
     returns-4
-    returns-5)
+    same-length-3
+    returns-5
+    returns-6)

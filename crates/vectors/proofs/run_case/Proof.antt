@@ -4,8 +4,8 @@ use Rattle.vectors.proofs.Running.{case-run}
 use Rattle.vectors.proofs.run_case.Statement.{statement}
 use Rattle.vectors.proofs.run_case.Tie as tie
 
-text-room-requires : tie.Need-text-room-requires
-text-room-requires c κs = search needs
+byte-room-requires : tie.Need-byte-room-requires
+byte-room-requires c κs = search needs
 
 list-room-requires : tie.Need-list-room-requires
 list-room-requires c κs = search needs
@@ -61,7 +61,7 @@ pub run-case-spec : {M : Type 1} → statement M
 run-case-spec =
     tie.close
     (tie.spec
-    text-room-requires
+    byte-room-requires
     list-room-requires
     slice-aggregate-read-case
     slice-aggregate-read-case-2

@@ -48,23 +48,42 @@ returns-10 c = (search needs, rw (c .match .keys10) refl)
 
 returns-11 : tie.Need-returns-11
 unfolding shapeOf
-returns-11 c =
+returns-11 c = (search needs, rw (c .match .keys11) refl)
+
+returns-12 : tie.Need-returns-12
+unfolding shapeOf
+returns-12 c =
     let op = c .before .args .op in
     let none = c .match .rest in (
       search needs,
       rw (
-        ne-eqb op 1 (none .0 .0 .0 .0 .0 .0 .0 .0 .0 .1),
-        ne-eqb op 2 (none .0 .0 .0 .0 .0 .0 .0 .0 .1),
-        ne-eqb op 3 (none .0 .0 .0 .0 .0 .0 .0 .1),
-        ne-eqb op 4 (none .0 .0 .0 .0 .0 .0 .1),
-        ne-eqb op 5 (none .0 .0 .0 .0 .0 .1),
-        ne-eqb op 6 (none .0 .0 .0 .0 .1),
-        ne-eqb op 8 (none .0 .0 .0 .1),
-        ne-eqb op 9 (none .0 .0 .1),
-        ne-eqb op 10 (none .0 .1),
-        ne-eqb op 11 (none .1),
+        ne-eqb op 1 (none .0 .0 .0 .0 .0 .0 .0 .0 .0 .0 .1),
+        ne-eqb op 2 (none .0 .0 .0 .0 .0 .0 .0 .0 .0 .1),
+        ne-eqb op 3 (none .0 .0 .0 .0 .0 .0 .0 .0 .1),
+        ne-eqb op 4 (none .0 .0 .0 .0 .0 .0 .0 .1),
+        ne-eqb op 5 (none .0 .0 .0 .0 .0 .0 .1),
+        ne-eqb op 6 (none .0 .0 .0 .0 .0 .1),
+        ne-eqb op 8 (none .0 .0 .0 .0 .1),
+        ne-eqb op 9 (none .0 .0 .0 .1),
+        ne-eqb op 10 (none .0 .0 .1),
+        ne-eqb op 11 (none .0 .1),
+        ne-eqb op 12 (none .1),
       ) refl,
     )
 
 pub shape-of-spec : {M : Type 1} → statement M
-shape-of-spec = tie.close (tie.spec returns returns-2 returns-3 returns-4 returns-5 returns-6 returns-7 returns-8 returns-9 returns-10 returns-11)
+shape-of-spec =
+    tie.close
+    (tie.spec
+    returns
+    returns-2
+    returns-3
+    returns-4
+    returns-5
+    returns-6
+    returns-7
+    returns-8
+    returns-9
+    returns-10
+    returns-11
+    returns-12)

@@ -1,4 +1,4 @@
--- Laws of `decimal`: a number of one digit, a number of more, and how long it is.
+-- Laws of `decimal`: a number of one digit, a number of more, what that gives by induction, and how long it is.
 use mathlib.Core.Path.{_≡_, refl, sym, ap, _∙_}
 use mathlib.Core.List.{List, [], _∷_, _++_}
 use mathlib.Core.Logic.{⊎-elim}
@@ -8,7 +8,7 @@ use native.Mathlib.Omega.{arith}
 use lib.ListN.{length, length-append}
 use borrow.Author.Tests.{lt-ltb, le-ltb}
 use Rattle.jumbled.proofs.Sums.{below-or-not}
-use Rattle.program_lines.specs.Decimal.{ascii, digits, decimal, numberLine}
+use Rattle.ascii.specs.Decimal.{digits, decimal}
 
 digits-small : (more n : ℕ) → n < 10 → digits more n ≡ (48 + n) ∷ []
 unfolding digits
@@ -40,6 +40,15 @@ decimal-large n l =
     digits-enough n (suc n) n (omega arith) (omega arith) ∙ digits-large n n l
     ∙ ap (λ (D : List ℕ). D ++ ((48 + n % 10) ∷ [])) (digits-enough n (n / 10) (n / 10) (omega arith) (omega arith))
 
+-- so what holds of numbers of one digit, and goes on from n / 10 to n, holds of all
+module _ (Holds : ℕ → Type 0) (one : (n : ℕ) → n < 10 → Holds n) (more : (n : ℕ) → 10 ≤ n → Holds (n / 10) → Holds n) where
+  below : (bound n : ℕ) → n < bound → Holds n
+  below (suc bound) n h =
+      ⊎-elim (λ (l : n < 10). one n l) (λ (l : 10 ≤ n). more n l (below bound (n / 10) (omega arith))) (below-or-not n 10)
+
+  pub by-digits : (n : ℕ) → Holds n
+  by-digits n = below (suc n) n (omega arith)
+
 -- ---- its length
 
 pub length-decimal-small : (n : ℕ) → n < 10 → length (decimal n) ≡ 1
@@ -59,7 +68,3 @@ length-decimal (suc d) n h =
       length-decimal-large n l,
       length-decimal d (n / 10) (div-lt-iff-lt-mul (omega arith) .1 (rw pow-suc at h)),
     )) (below-or-not n 10)
-
-pub length-numberLine : (n : ℕ) → length (numberLine n) ≡ length (decimal n) + 1
-unfolding numberLine ascii
-length-numberLine n = length-append (decimal n) (10 ∷ [])
