@@ -28,6 +28,15 @@ loop-holds c = (omega arith, rw add-zero (written-none _ _))
 add-buffer : tie.Need-add-buffer Inv-loop μ-loop
 add-buffer c = omega arith
 
+loop-again : tie.Need-loop-again Inv-loop μ-loop
+loop-again c =
+    let start = c .before .before in
+    let i = c .before .loop .i in (
+      omega arith,
+      rw (getD-replicate (start .args .count) i (start .args .byte) 0 (omega arith)) at
+          (copied-more (replicate (start .args .count) (start .args .byte)) i (c .before .loop .inv .1) (left c) (room start)),
+    )
+
 slice-write-buffer : tie.Need-slice-write-buffer Inv-loop μ-loop
 slice-write-buffer c =
     let start = c .before .before in
@@ -38,15 +47,6 @@ add-i c = omega arith
 
 loop-less : tie.Need-loop-less Inv-loop μ-loop
 loop-less c = omega arith
-
-loop-again : tie.Need-loop-again Inv-loop μ-loop
-loop-again c =
-    let start = c .before .before in
-    let i = c .before .loop .i in (
-      omega arith,
-      rw (getD-replicate (start .args .count) i (start .args .byte) 0 (omega arith)) at
-          (copied-more (replicate (start .args .count) (start .args .byte)) i (c .before .loop .inv .1) (left c) (room start)),
-    )
 
 -- after the loop it stands there as often as asked
 whole : (c : tie.After-loop Inv-loop μ-loop)

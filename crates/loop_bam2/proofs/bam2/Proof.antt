@@ -134,6 +134,14 @@ add-packed c =
     let i = at .loop .inv tables in
     record { fits = inner-word w i (at .loop .p - 1) _ (omega arith) (omega arith) (pair-first w i (c .before .before .before .loop-test .taken)) }
 
+loop-again : tie.Need-loop-again Inv-loop μ-loop Inv-windows μ-windows
+loop-again c tables =
+    let at = c .before .before .before .before .before .before in
+    let w = window (at .before) tables in
+    let i = at .loop .inv tables in
+    let t = pair (c .before .before .before .before .before) tables in
+    inner-on w i t (tops-clear w i t (c .if2 .left))
+
 mul-packed-2 : tie.Need-mul-packed-2 Inv-loop μ-loop Inv-windows μ-windows
 mul-packed-2 c = omega (arith, c .before .shared-slice-known3 .given (c .before .before .before .before .loop .p - 2))
 
@@ -167,14 +175,6 @@ windows-again c tables =
 
 loop-less : tie.Need-loop-less Inv-loop μ-loop Inv-windows μ-windows
 loop-less c = omega (arith, c .before .before .before .before .before .loop-test .taken)
-
-loop-again : tie.Need-loop-again Inv-loop μ-loop Inv-windows μ-windows
-loop-again c tables =
-    let at = c .before .before .before .before .before .before in
-    let w = window (at .before) tables in
-    let i = at .loop .inv tables in
-    let t = pair (c .before .before .before .before .before) tables in
-    inner-on w i t (tops-clear w i t (c .if2 .left))
 
 shared-slice-read-packed : tie.Need-shared-slice-read-packed Inv-loop μ-loop Inv-windows μ-windows
 shared-slice-read-packed c = omega (arith, c .before .if3 .taken, upto (c .before .before .before))

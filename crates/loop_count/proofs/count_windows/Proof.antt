@@ -193,6 +193,17 @@ cast-leaving c = omega (arith, both-bytes (counts-here (c .before .before .befor
 array-read-counts-2 : tie.Need-array-read-counts-2 Inv-loop μ-loop
 array-read-counts-2 c = omega (arith, both-bytes (counts-here (c .before .before .before) .turn))
 
+loop-again : tie.Need-loop-again Inv-loop μ-loop
+loop-again c =
+    λ given.
+    let here = counts-for (c .before .before .before .before) given in
+    record {
+      progress =
+          ⊎-elim (λ w. rw (w .1, w .2) (again-listed here (omega (arith, w .0 .taken)))) (λ w. rw (w .1, w .2) (again-skipped here (omega (arith, w .0 .left))))
+          (c .before .before .if2 .came);
+      state = kept here;
+    }
+
 sub-counts : tie.Need-sub-counts Inv-loop μ-loop
 sub-counts c =
     let here = counts-here (c .before .before .before) in
@@ -220,17 +231,6 @@ add-s c = omega arith
 
 loop-less : tie.Need-loop-less Inv-loop μ-loop
 loop-less c = omega arith
-
-loop-again : tie.Need-loop-again Inv-loop μ-loop
-loop-again c =
-    λ given.
-    let here = counts-for (c .before .before .before .before) given in
-    record {
-      progress =
-          ⊎-elim (λ w. rw (w .1, w .2) (again-listed here (omega (arith, w .0 .taken)))) (λ w. rw (w .1, w .2) (again-skipped here (omega (arith, w .0 .left))))
-          (c .before .before .if2 .came);
-      state = kept here;
-    }
 
 same-length : tie.Need-same-length Inv-loop μ-loop
 same-length c = c .before .before .loop .inv (c .before .before .before .before .pre) .progress .same-length

@@ -6,6 +6,11 @@ use Rattle.program_report.proofs.Room.{output-read}
 use Rattle.program_report.proofs.report_read.Statement.{statement}
 use Rattle.program_report.proofs.report_read.Tie as tie
 
+returns : tie.Need-returns
+returns c =
+    let start = c .before .before .before .before in
+    λ input first. rw (sym (output-read input (start .args .bytes .now) (start .args .read) (start .pre) first)) (c .report .ensures)
+
 slice-aggregate-report : tie.Need-slice-aggregate-report
 slice-aggregate-report c =
     let start = c .before .before in
@@ -13,11 +18,6 @@ slice-aggregate-report c =
 
 report-requires : tie.Need-report-requires
 report-requires c κs = search needs
-
-returns : tie.Need-returns
-returns c =
-    let start = c .before .before .before .before in
-    λ input first. rw (sym (output-read input (start .args .bytes .now) (start .args .read) (start .pre) first)) (c .report .ensures)
 
 pub report-read-spec : {M : Type 1} → statement M
 report-read-spec = tie.close (tie.spec slice-aggregate-report report-requires returns)

@@ -49,6 +49,9 @@ loop-holds : tie.Need-loop-holds Inv-loop μ-loop
 unfolding pack
 loop-holds c = (omega arith, refl)
 
+loop-again : tie.Need-loop-again Inv-loop μ-loop
+loop-again c = (omega (arith, c .loop-test .taken), one-more c)
+
 mul-ones : tie.Need-mul-ones Inv-loop μ-loop
 mul-ones c = omega (arith, c .before .before .pre .0, c .loop-test .taken)
 
@@ -66,8 +69,8 @@ add-field c = omega (arith, c .before .before .pre .0, c .loop-test .taken)
 loop-less : tie.Need-loop-less Inv-loop μ-loop
 loop-less c = omega arith
 
-loop-again : tie.Need-loop-again Inv-loop μ-loop
-loop-again c = (omega (arith, c .loop-test .taken), one-more c)
+returns : tie.Need-returns Inv-loop μ-loop
+returns c = record { ones-are = all-ones c; tops-are = scaled c topValue; start-is = scaled c (topValue - c .before .before .args .waiting) }
 
 mul-t9 : tie.Need-mul-t9 Inv-loop μ-loop
 mul-t9 c = record { fits = scaled-fits c 128 (lit< tt) }
@@ -77,9 +80,6 @@ sub-t11 c = omega (arith, c .before .before .pre .1)
 
 mul-t12 : tie.Need-mul-t12 Inv-loop μ-loop
 mul-t12 c = record { fits = scaled-fits c (128 - c .before .before .args .waiting) (omega arith) }
-
-returns : tie.Need-returns Inv-loop μ-loop
-returns c = record { ones-are = all-ones c; tops-are = scaled c topValue; start-is = scaled c (topValue - c .before .before .args .waiting) }
 
 pub fields-for-spec : {M : Type 1} → statement M
 fields-for-spec =

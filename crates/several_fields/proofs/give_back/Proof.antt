@@ -12,6 +12,9 @@ use Rattle.several_fields.proofs.give_back.Lts as lts
 is-byte : (c : tie.Start) → c .args .byte < 256
 is-byte c = let fits : Fits w8 (c .args .byte) = search needs in fits .fits
 
+returns : tie.Need-returns
+returns c ready = give-words ready (is-byte (c .before .before .before))
+
 mul-room : tie.Need-mul-room
 mul-room c = search needs
 
@@ -29,9 +32,6 @@ element-write-rooms c = search needs
 
 sub-result : tie.Need-sub-result
 sub-result c = give-below (c .before .before .before .pre) (is-byte (c .before .before .before))
-
-returns : tie.Need-returns
-returns c ready = give-words ready (is-byte (c .before .before .before))
 
 pub give-back-spec : {M : Type 1} → statement M
 give-back-spec =

@@ -40,6 +40,15 @@ mul-rooms c = omega (arith, is-byte c)
 element-copy-out-rooms : tie.Need-element-copy-out-rooms Inv-loop μ-loop
 element-copy-out-rooms c = is-byte c
 
+loop-again : tie.Need-loop-again Inv-loop μ-loop
+loop-again c =
+    let start = c .before .before .before .before in
+    let at = c .before .before .before .loop in (
+      omega (arith, inside (c .before)),
+      rw (at .inv .1)
+          (added-more (start .args .pattern .now) (start .args .unit) (start .args .rooms .now) (at .i) (inside (c .before)) (is-byte (c .before))),
+    )
+
 add-rooms : tie.Need-add-rooms Inv-loop μ-loop
 add-rooms c =
     let start = c .before .before .before .before in
@@ -58,15 +67,6 @@ add-i c = omega (arith, inside (c .before), c .before .before .before .before .p
 
 loop-less : tie.Need-loop-less Inv-loop μ-loop
 loop-less c = omega (arith, inside (c .before))
-
-loop-again : tie.Need-loop-again Inv-loop μ-loop
-loop-again c =
-    let start = c .before .before .before .before in
-    let at = c .before .before .before .loop in (
-      omega (arith, inside (c .before)),
-      rw (at .inv .1)
-          (added-more (start .args .pattern .now) (start .args .unit) (start .args .rooms .now) (at .i) (inside (c .before)) (is-byte (c .before))),
-    )
 
 returns : tie.Need-returns Inv-loop μ-loop
 returns c =

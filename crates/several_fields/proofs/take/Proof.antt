@@ -12,6 +12,9 @@ use Rattle.several_fields.proofs.take.Lts as lts
 is-byte : (c : tie.Start) → c .args .byte < 256
 is-byte c = let fits : Fits w8 (c .args .byte) = search needs in fits .fits
 
+returns : tie.Need-returns
+returns c ready = take-words ready (is-byte (c .before .before .before))
+
 mul-room : tie.Need-mul-room
 mul-room c = search needs
 
@@ -29,9 +32,6 @@ element-write-rooms c = search needs
 
 add-result : tie.Need-add-result
 add-result c = record { fits = take-fits (c .before .before .before .pre) (is-byte (c .before .before .before)) }
-
-returns : tie.Need-returns
-returns c ready = take-words ready (is-byte (c .before .before .before))
 
 pub take-spec : {M : Type 1} → statement M
 take-spec =

@@ -61,6 +61,11 @@ searched c =
     onward ready so-far (c .count-windows .ensures (for-piece ready so-far (omega arith))) (omega arith) (omega (arith, loop .loop .inv .0))
     (c .before .before .loop-test .taken)
 
+loop-again : tie.Need-loop-again Inv-loop μ-loop
+loop-again c =
+    let piece = c .before .before .before in
+    (piece .count-windows .kept .1 .1 .1 .1 .1 .1 .0 ∙ piece .before .before .before .loop .inv .0, searched piece .so-far)
+
 add-found : tie.Need-add-found Inv-loop μ-loop
 add-found c = omega (arith, searched (c .before .before .before) .fits)
 
@@ -68,11 +73,6 @@ loop-less : tie.Need-loop-less Inv-loop μ-loop
 loop-less c =
     let piece = c .before .before .before in
     omega (arith, searched piece .further, piece .before .before .loop-test .taken)
-
-loop-again : tie.Need-loop-again Inv-loop μ-loop
-loop-again c =
-    let piece = c .before .before .before in
-    (piece .count-windows .kept .1 .1 .1 .1 .1 .1 .0 ∙ piece .before .before .before .loop .inv .0, searched piece .so-far)
 
 returns-2 : tie.Need-returns-2 Inv-loop μ-loop
 returns-2 c =

@@ -68,6 +68,15 @@ write-window-requires c κs =
       simp length-set (omega (arith, same, s .write-position .ensures .place, number-length start, start .pre .room)),
     )
 
+returns : tie.Need-returns
+returns c =
+    let w = c .before .before in
+    let s = w .before .before .before .before in
+    let start = s .before .before .before .before in
+    let blank = written-more (s .write-position .ensures) (blank-room start) _ in
+    rw (line-parts (start .args .position) (start .args .window .now))
+    (written-more (written-then blank (w .write-window .ensures) (window-room start)) (newline-room start) 10)
+
 slice-write-buffer-2 : tie.Need-slice-write-buffer-2
 slice-write-buffer-2 c =
     let w = c .before .before in
@@ -91,15 +100,6 @@ same-length c =
     let start = s .before .before .before .before in
     let blank = written-more (s .write-position .ensures) (blank-room start) _ in
     simp length-set (written-length (written-then blank (w .write-window .ensures) (window-room start)) (omega (arith, newline-room start)))
-
-returns : tie.Need-returns
-returns c =
-    let w = c .before .before in
-    let s = w .before .before .before .before in
-    let start = s .before .before .before .before in
-    let blank = written-more (s .write-position .ensures) (blank-room start) _ in
-    rw (line-parts (start .args .position) (start .args .window .now))
-    (written-more (written-then blank (w .write-window .ensures) (window-room start)) (newline-room start) 10)
 
 pub write-line-spec : {M : Type 1} → statement M
 write-line-spec =
