@@ -135,6 +135,10 @@ def check_widths(tally):
     bits("32 letters, method 2", letters(32), 0, 2, 65)
     bits("15 letters, k 3, method 4", letters(15), 3, 4, 64)
     bits("16 letters, k 3, method 4", letters(16), 3, 4, 68)
+    for method, expected in ((2, 64), (3, 65), (4, 86)):
+        bits("21 letters thrice, method %d" % method, letters(21) * 3, 0, method, expected)
+    bits("20 letters thrice and one, method 3", letters(20) * 3 + b"x", 0, 3, 64)
+    bits("20 letters thrice and two, method 2", letters(20) * 3 + b"xy", 0, 2, 65)
     for q, exact in ((10, True), (11, False)):
         pattern = letters(q) + letters(1) * (63 - q)
         what = "m 63, %d letters, method 5" % q
@@ -148,6 +152,12 @@ def check_widths(tally):
         )
     for v, e in ((0, 0), (1, 0), (2, 1), (3, 2), (4, 2), (5, 3), (63, 6), (64, 6)):
         tally.same("lg(%d)" % v, ref.lg(v), e)
+    # Each width with the fewest and the most of a letter that it is for.
+    for least, most, g in (
+        (1, 1, 2), (2, 3, 3), (4, 7, 4), (8, 15, 5), (16, 31, 6), (32, 63, 7), (64, 64, 8),
+    ):
+        for v in (least, most):
+            tally.same("width of a letter that comes %d times" % v, ref.own_width(v), g)
 
 
 def check_examples(tally):
@@ -468,6 +478,11 @@ def width_inputs(rng):
             yield line(method, k, pattern) + make_text(rng, pattern, k, m + 9)
         if len(wanted) == 18 and min(wanted.values()) == 12:
             break
+    for q in range(15, 22):
+        for others in (b"", b"x", b"xy", b"xx"):
+            pattern = letters(q) * 3 + others
+            for method in METHODS:
+                yield line(method, 0, pattern) + shuffled(rng, pattern) + letters(3)
 
 
 def heap_inputs(rng):

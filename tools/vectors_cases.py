@@ -118,22 +118,29 @@ def widths_under_the_sheet(stream, rng):
         stream.width(repeated(m, b"a"), 0, 2 + m % 3)
 
 
-def widths_near_a_word(stream, rng):
-    """Made patterns whose fields need 62 to 67 bits."""
+def near_a_word(rng, methods, each, own):
+    """Made patterns whose fields need 62 to 67 bits, letters having the widths
+    that own gives: of every method and number of bits the same number."""
     made = {}
-    while len(made) < 18 or min(made.values()) < 3:
-        method = rng.choice((2, 3, 4, 4, 4))
+    while len(made) < 6 * len(set(methods)) or min(made.values()) < each:
+        method = rng.choice(methods)
         m = rng.randrange(12, 65)
         k = rng.randrange(min(m, 20)) if method == 4 else 0
         pattern = pattern_of(rng, m, rng.randrange(5, 34))
-        bits = ref.bits_needed(pattern, k, method)
-        if 62 <= bits <= 67 and made.get((method, bits), 0) < 3:
+        bits = ref.bits_needed(pattern, k, method, own)
+        if 62 <= bits <= 67 and made.get((method, bits), 0) < each:
             made[method, bits] = made.get((method, bits), 0) + 1
-            if made[method, bits] == 1:
-                widths_at(stream, rng, pattern, k, method)
-            else:
-                stream.width(pattern, k, method)
-                stream.open(pattern, k, method)
+            yield pattern, k, method, made[method, bits]
+
+
+def widths_near_a_word(stream, rng):
+    """By the widths before T-03: some that were refused are accepted since."""
+    for pattern, k, method, number in near_a_word(rng, (2, 3, 4, 4, 4), 3, ref.former_width):
+        if number == 1:
+            widths_at(stream, rng, pattern, k, method)
+        else:
+            stream.width(pattern, k, method)
+            stream.open(pattern, k, method)
 
 
 def most_exact_letters(m):
@@ -1200,6 +1207,145 @@ def long_sheets(stream, rng):
         assert number == 10, "a sheet that fits"
 
 
+# --- Letters that come three times (document 02, T-03) ---------------------------------------
+
+THRICE = letters(21) * 3
+WITH_ONE = letters(20) * 3 + b"x"
+WITH_TWO = letters(20) * 3 + b"xy"
+
+# A pattern, a method, and the bits that the fields need for k = 0: a word's and one
+# more.  Method 4 kept its widths.
+SIDES = (
+    (THRICE, 2, 64), (WITH_TWO, 2, 65), (WITH_ONE, 3, 64), (THRICE, 3, 65),
+    (letters(15) * 3 + b"x", 4, 64), (letters(15) * 3 + b"xx", 4, 65), (THRICE, 4, 86),
+)
+
+
+def fed_in_turn(stream, pattern, pieces, methods):
+    """Each piece by the next method.  Where that is refused the one before it goes
+    on; either way the lists are the matching windows of the record so far."""
+    stream.open(pattern, 0, methods[0])
+    record, listed = b"", []
+    for at, piece in enumerate(pieces):
+        if at:
+            stream.set_method(methods[at % len(methods)])
+        assert stream.feed(piece) == 0
+        record += piece
+        listed += stream.listed
+        assert listed == ref.listed_positions(pattern, 0, record)
+
+
+def sides_by_every_call(stream, rng):
+    """Every call that measures the fields, at both sides of 64 bits."""
+    for pattern, method, bits in SIDES:
+        assert ref.bits_needed(pattern, 0, method) == bits
+        mix = shuffled(rng, pattern)
+        text = mix + mix[:1] + pattern[:1] if bits <= 64 else mix[:2]
+        sound = ref.Search(pattern, 0, method, 99, mix[1:])
+        stream.width(pattern, 0, method)
+        stream.whole(pattern, 0, method, text)
+        stream.open(pattern, 0, method)
+        stream.save(99)
+        fed_in_turn(stream, pattern, (text[:1], text[1:-1], text[-1:]), (1, method, 5))
+        stream.load(ref.image_of(sound, rng.choice(ORDERS)))
+        stream.hand(handed(rng, *sound))
+        stream.save(160)
+        stream.feed(mix[:2])
+        stream.set_method(1)
+        stream.report(line(method, 0, pattern) + text)
+        marked(stream, pattern, 0, method, text)
+
+
+# How often a letter comes, at both sides of each power of two: from one power to
+# the next its field has the same width.
+COUNTS = (1, 2, 3, 4, 5, 7, 8, 15, 16, 31, 32, 63, 64)
+
+
+def counts_at_each_width(stream, rng):
+    """Windows with a letter as often as the pattern has it, and once more: beside
+    few other letters, so that m is odd and even, and beside some of its count."""
+    for v, method in itertools.product(COUNTS, (2, 3)):
+        run = b"a" * v
+        stream.width(repeated(v, b"a"), 0, method)
+        for others in (b"b", b"bc") if v < 63 else (b"b",) if v < 64 else (b"",):
+            text = others + run + others[:1] + b"a" + run + others[::-1]
+            stream.whole(run + others, 0, method, text)
+        for own in (b"ab", b"abc"):
+            m = v * len(own)
+            if m <= 64:
+                made = scattered(2 * m + 30, rng.randrange(2**32), own)
+                stream.whole(repeated(m, own), 0, method, made)
+
+
+def filled_up(v, bits):
+    """A letter that comes v times, and others once, or one of them twice, so that
+    the fields of all of them have that many bits."""
+    rest = bits - ref.own_width(v)
+    return b"~" * v + letters(rest // 2) + letters(rest % 2)
+
+
+def filled_to_a_word(stream, rng):
+    """62 bits of the letters make 63 in method 2 and 64 in method 3; 63 make 64 and
+    65, so that only the change to method 2 is accepted; 64 make too many for both."""
+    for v, bits in itertools.product(COUNTS, (62, 63, 64)):
+        pattern = filled_up(v, bits)
+        if len(pattern) <= 64:
+            for method, shared in ((2, 1), (3, 2)):
+                assert ref.bits_needed(pattern, 0, method) == bits + shared
+            mix = shuffled(rng, pattern)
+            pieces = mix[:1], mix[1:] + b"~A", mix[2:4] + b"~~-"
+            fed_in_turn(stream, pattern, pieces, (1, 2, 3))
+
+
+def accepted_since(stream, rng):
+    """Made patterns at both sides of what fits since T-03."""
+    for pattern, _, method, _ in near_a_word(rng, (2, 3), 1, ref.own_width):
+        stream.width(pattern, 0, method)
+        size = len(pattern) + 30 if ref.fits(pattern, 0, method) else 2
+        stream.whole(pattern, 0, method, make_text(rng, pattern, 0, size))
+
+
+def cut_anywhere(stream, rng):
+    """A record cut at each place, and begun by one method and ended by another."""
+    record = b"abbabaaabbxbabaab"
+    for methods, cut in itertools.product(((2, 3), (3, 2)), range(len(record) + 1)):
+        fed_in_turn(stream, b"ab" * 3, (record[:cut], record[cut:]), methods)
+
+
+def in_many_pieces(stream, rng):
+    """Methods 2 and 3 in turn; where method 3 would need 65 bits 2 and 1, with
+    changes between them that are refused."""
+    for pattern, methods in (
+        (letters(3) * 3, (2, 3)), (letters(9) * 3, (3, 2)), (WITH_ONE, (2, 3)),
+        (THRICE, (2, 3, 1, 3, 2, 4)),
+    ):
+        m = len(pattern)
+        # From the first window on almost every piece ends one that matches.
+        first, second = shuffled(rng, pattern), shuffled(rng, pattern)
+        record = (first * 2)[: m + 12] + b"-" + (second * 2)[: m + 11]
+        pieces = []
+        for size in (m - 1, 1, 2, 1, 3, 1, 2, 1, 1, 1) * 2:
+            pieces.append(record[:size])
+            record = record[size:]
+        fed_in_turn(stream, pattern, pieces, methods)
+
+
+def images_of_letters_thrice(stream, rng):
+    """A saved search is loaded and goes on; with a method in its image that needs
+    too many bits it is refused with 5."""
+    for pattern, method, others in (
+        (THRICE, 2, (2, 3, 1, 4)), (WITH_ONE, 3, (3, 4)), (WITH_TWO, 1, (1, 2)),
+    ):
+        mix = shuffled(rng, pattern)
+        stream.open(pattern, 0, method)
+        stream.feed(mix[:-1])
+        search = ref.contents(stream.search)
+        stream.save(len(ref.image_of(search)))
+        for other in others:
+            stream.load(ref.image_of(search._replace(method=other)))
+            stream.feed(mix[-1:] + mix[:1])
+
+
 # --- All of them ----------------------------------------------------------------------------
 
 FAMILIES = (
@@ -1255,4 +1401,11 @@ FAMILIES = (
     limits_of_sheet,
     made_sheets,
     long_sheets,
+    sides_by_every_call,
+    counts_at_each_width,
+    filled_to_a_word,
+    accepted_since,
+    cut_anywhere,
+    in_many_pieces,
+    images_of_letters_thrice,
 )

@@ -48,7 +48,21 @@ FEWEST = {
     "no positions, and an empty buffer for the sheet": 10,
     "one position, and an empty buffer for the sheet": 5,
     "one sheet by all five methods, with unlike looks": 10,
+    "calls that method 2 accepts since T-03": 50,
+    "calls that method 3 accepts since T-03": 40,
+    "calls that method 2 accepted before T-03, with wider fields": 100,
+    "calls that method 3 accepted before T-03, with wider fields": 100,
+    "a window of letters thrice across a change from method 2 to 3": 30,
+    "a window of letters thrice across a change from method 3 to 2": 30,
+    "a window of letters thrice across a change from method 2 to 1": 3,
+    "a window of letters thrice across a change from method 1 to 2": 3,
+    "a window of letters thrice across a change that is refused with 5": 8,
+    "saved searches for letters thrice that are loaded": 4,
+    "saved searches for letters thrice that are refused with 5 by another method": 4,
 }
+
+# The calls that refuse with 5.
+MEASURING = WHOLE, OPEN, FEED, SET_METHOD, SAVE, LOAD, REPORT, MARKED
 
 # --- The tests of each call, in their order ------------------------------------
 
@@ -111,6 +125,30 @@ def tests_of(op, arguments, search):
     return []
 
 
+def measured_terms(op, arguments, search):
+    """The pattern, k and method whose fields a case measures, if it comes to that;
+    of set method those of the change, unless the search is refused already."""
+    if op in (WHOLE, OPEN, WIDTH):
+        return arguments[:3]
+    if op in (FEED, SAVE):
+        return search[:3]
+    if op == SET_METHOD and not ref.refuse_search(search):
+        return search.pattern, search.k, arguments[0]
+    if op == LOAD:
+        loaded = ref.parts_of(arguments[0])
+        return loaded and loaded[:3]
+    if op == REPORT:
+        parsed = ref.parse_input(arguments[0])
+        return parsed and (parsed[2], parsed[1], parsed[0])
+    if op == MARKED:
+        return arguments[0].pattern, arguments[1], arguments[2]
+    return None
+
+
+def has_thrice(pattern):
+    return any(pattern.count(c) == 3 for c in pattern)
+
+
 def possible_pairs(op):
     """Places in the order of tests of two that can hold at once.  A method
     that is none has no condition of number 4 or 5."""
@@ -153,6 +191,9 @@ class VectorCoverage(Coverage):
         self.pairs = Counter()
         self.counts = Counter()
         self.together = set()
+        self.fields = set()
+        self.change = None
+        self.saved = set()
         self.in_several = set()
         self.on_paper = set()
         self.looks_of_sheets = {}
@@ -161,13 +202,18 @@ class VectorCoverage(Coverage):
         """A case, and the stored search before it."""
         if op == HAND:
             self.hands += 1
+            self.change = None
             return
         self.cases[op, number] += 1
         search = ref.contents(before)
         self.order(op, tests_of(op, arguments, search), number)
+        self.across(op, arguments, number, search)
+        self.images(op, arguments, number, search)
         if op == REPORT:
-            self.add(arguments[0], ref.program_output(arguments[0]))
+            output = ref.program_output(arguments[0])
+            self.add(arguments[0], output)
             self.first_line(arguments[0])
+            number = int(output.split()[1]) if output.startswith(b"refused ") else 0
         elif op == WIDTH:
             self.bits.add((arguments[2], ref.bits_needed(*arguments)))
         elif op == WHOLE and not number:
@@ -180,6 +226,70 @@ class VectorCoverage(Coverage):
             self.several(*arguments)
         elif op == MARKED and number in (0, 10):
             self.marked(number, *arguments)
+        terms = measured_terms(op, arguments, search)
+        if terms and terms[2] in (2, 3, 4) and number in (0, 5):
+            self.measured(op, number, *terms)
+
+    def measured(self, op, number, pattern, k, method):
+        """How many bits the fields of a case need, and what it made of that."""
+        bits = ref.bits_needed(pattern, k, method)
+        self.fields.add((NAMES[op], "method", method, "bits", bits, "number", number))
+        if op == WIDTH:
+            return
+        often = {pattern.count(c) for c in pattern}
+        if often == {3}:
+            self.fields.add((NAMES[op], "letters thrice", len(pattern) // 3, method, number))
+        for v in often:
+            self.fields.add(("a letter that comes", v, "method", method, "bits", bits))
+        if method < 4 and not number:
+            since = not ref.fits(pattern, k, method, ref.former_width)
+            wider = ref.had_other_fields(pattern, k, method)
+            self.counts["calls that method %d accepts since T-03" % method] += since
+            accepted_before = "calls that method %d accepted before T-03, with wider fields"
+            self.counts[accepted_before % method] += wider
+
+    def searched(self, pattern, k, method, text):
+        """In methods 2 and 3 also each letter whose field decides: windows that
+        match, and windows with one of that letter too many and no other.  The steps
+        come to the first window and to each that follows one that matches."""
+        super().searched(pattern, k, method, text)
+        if method not in (2, 3):
+            return
+        m = len(pattern)
+        for s in [0] + [s + 1 for s in ref.listed_positions(pattern, k, text)[:99]]:
+            window = text[s : s + m]
+            excess = ref.excess(window, pattern)
+            for c in set(pattern) if len(window) == m and excess < 2 else ():
+                v = pattern.count(c)
+                if window.count(c) - v == excess:
+                    self.fields.add(("a letter that comes", v, "method", method, "over", excess))
+
+    def across(self, op, arguments, number, search):
+        """Windows that begin before a change of method and end after it."""
+        change, self.change = self.change, None
+        if op == SET_METHOD and number == 5:
+            self.change = "that is refused with 5"
+        elif op == SET_METHOD and not number:
+            self.change = "from method %d to %d" % (search.method, arguments[0])
+        elif op == FEED and not number and change:
+            text = search.tail + arguments[0]
+            first = ref.listed_positions(search.pattern, search.k, text)[:1]
+            if has_thrice(search.pattern) and first and first[0] < len(search.tail):
+                self.counts["a window of letters thrice across a change " + change] += 1
+
+    def images(self, op, arguments, number, search):
+        """Searches that were saved, loaded as they are or with another method."""
+        if op == SAVE and not number:
+            self.saved.add(search)
+        elif op == LOAD and number in (0, 5):
+            loaded = ref.parts_of(arguments[0])
+            others = {loaded._replace(method=method) for method in METHODS}
+            for kind, holds in (
+                ("are loaded", loaded in self.saved),
+                ("are refused with 5 by another method", number == 5 and others & self.saved),
+            ):
+                if has_thrice(loaded.pattern) and holds:
+                    self.counts["saved searches for letters thrice that " + kind] += 1
 
     def several(self, handed, k, text, places):
         patterns = ref.cut_up(handed.data, handed.lengths)
@@ -328,6 +438,26 @@ class VectorCoverage(Coverage):
         for s in (0, 9, 10, 99, 100, 999, 1000, 9999, 10000, 65534, 65535):
             yield "position", s
 
+    def wanted_fields(self):
+        """Both sides of number 5 by every call, also with 21 letters thrice; each
+        count beside a width's edge in windows that match and in windows with one
+        more, and at both sides of number 5 where 64 readings have room for that."""
+        for op in MEASURING:
+            for method in (2, 3, 4):
+                for bits, number in ((64, 0), (65, 5)):
+                    yield NAMES[op], "method", method, "bits", bits, "number", number
+            for method, number in ((2, 0), (3, 5), (4, 5)):
+                yield NAMES[op], "letters thrice", 21, method, number
+        for method in (2, 3, 4):
+            for bits in (64, 65):
+                yield NAMES[WIDTH], "method", method, "bits", bits, "number", 0
+        for v in (1, 2, 3, 4, 5, 7, 8, 15, 16, 31, 32, 63, 64):
+            for method in (2, 3):
+                for excess in (0, 1) if v < 64 else (0,):
+                    yield "a letter that comes", v, "method", method, "over", excess
+                for bits in (64, 65) if v < 63 else ():
+                    yield "a letter that comes", v, "method", method, "bits", bits
+
     def gaps(self):
         missing = []
         for op, numbers in NUMBERS.items():
@@ -359,6 +489,9 @@ class VectorCoverage(Coverage):
         for reached in self.wanted_on_paper():
             if reached not in self.on_paper:
                 missing.append("a marked sheet with %s" % (reached,))
+        for reached in self.wanted_fields():
+            if reached not in self.fields:
+                missing.append("fields: %s" % (reached,))
         if min(len(self.in_pattern), len(self.in_text), len(self.in_several)) < 256:
             missing.append("byte values")
         if min(self.sides.values()) == 0 or self.failed_verification == 0:

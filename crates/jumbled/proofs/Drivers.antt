@@ -9,9 +9,9 @@ use lib.ListN.{length, take, drop}
 use lib.Seq.{take-take, drop-drop}
 use borrow.Author.Tests.{lt-leb}
 use Rattle.jumbled.specs.Match.{Bytes, cc, excess, matches, window, starts, select}
-use Rattle.jumbled.specs.Scan.{Scanned, backward, Judged, forward}
+use Rattle.jumbled.specs.Scan.{note, Scanned, backward, Judged, forward}
 use Rattle.jumbled.proofs.Counts.{bytes-take, bytes-drop, cc-nil, cc-take, cc-drop, excess-mono}
-use Rattle.jumbled.proofs.Windows.{window-whole}
+use Rattle.jumbled.proofs.Windows.{window-whole, window-bytes}
 
 -- ---- parts of windows
 
@@ -94,3 +94,15 @@ module _ (P : List ℕ) (k : ℕ) (T : List ℕ) (bytes : Bytes T) where
   forward-lists judged sound s (suc left) cost h =
       ap₂ (listedIf s) (sound (window (length P) T s) (bytes-window s) (window-length (length P) T s (omega arith)))
       (forward-lists judged sound (suc s) left 1 (omega arith))
+
+-- ---- two scans that are alike of every window make one search
+
+pub backward-alike : (m : ℕ) (T : List ℕ) → Bytes T → {scanned scanned′ : List ℕ → Scanned} → ((W : List ℕ) → Bytes W → scanned W ≡ scanned′ W)
+    → (s left skip : ℕ) → backward scanned m T s left skip ≡ backward scanned′ m T s left skip
+unfolding backward
+backward-alike m T bytes alike s zero skip = refl
+backward-alike m T bytes alike s (suc left) (suc skip) = backward-alike m T bytes alike (suc s) left skip
+backward-alike m T bytes {scanned} {scanned′} alike s (suc left) zero =
+    let w : Scanned = scanned′ (window m T s) in
+    rw (alike (window m T s) (window-bytes m T s bytes))
+    (ap (note (w .listed) s (w .inspections)) (backward-alike m T bytes alike (suc s) left (w .offset)))

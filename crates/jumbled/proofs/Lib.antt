@@ -4,6 +4,7 @@ pub mod Counts
 pub mod Windows
 pub mod Selections
 pub mod Lg
+pub mod Bits
 pub mod Drivers
 pub mod Cuts
 pub mod Scans
@@ -13,4 +14,5 @@ pub mod HeapSums
 pub mod Admission
 pub mod Methods
 pub mod Positions
+pub mod Former
 pub mod Sheet

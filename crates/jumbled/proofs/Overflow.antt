@@ -14,7 +14,7 @@ use Rattle.jumbled.specs.Match.{Bytes, bit, cc, usedUp, excess}
 use Rattle.jumbled.specs.Fields.{lg, shared, fieldCount, fieldOf, Layout, bamLayout, bam2Layout, abamLayout, widthOf, startValue, valueOf, topSet, some, overflows, ownTopSet, errors}
 use Rattle.jumbled.proofs.Sums.{below-or-not, some-at, some-none}
 use Rattle.jumbled.proofs.Counts.{bytes-head, bytes-tail, cc-cons, cc-out, used-up, not-used-up, excess-nil, excess-cons, excess-at}
-use Rattle.jumbled.proofs.Lg.{lg-enough}
+use Rattle.jumbled.proofs.Lg.{lg-enough, bam-letters, bam2-letters}
 use Rattle.jumbled.proofs.Scans.{Exact}
 
 -- ---- one field
@@ -267,28 +267,36 @@ errors-exact P k q layout hP roomy = record { tells = λ U hU within. ap (ltb k)
 
 -- ---- the layouts
 
--- a field of lg(v) + 2 bits has 2^(lg(v) + 1), at least twice v and at least 2, below its top bit
-doubled-lg : (v : ℕ) → 2 * max v 1 ≤ 2 ^ (lg v + 2 - 1)
-doubled-lg v = let less : lg v + 2 - 1 ≡ suc (lg v) = omega arith in rw (less, pow-succ' 2 (lg v)) (omega (arith, lg-enough v))
-
-pub bam-roomy : Roomy 0 1 bamLayout
-bam-roomy =
+-- where every letter's count stays below its top bit, an own field has room for a step of one byte or two
+pub letters-roomy : (layout : Layout) (q : ℕ) → q ≤ 2 → ((v : ℕ) → v < 2 ^ (layout .own v - 1)) → 0 < layout .common → q ≤ 2 ^ (layout .common - 1)
+    → Roomy 0 q layout
+letters-roomy layout q few below some holds =
     record {
-      starts = λ v h. omega (arith, doubled-lg v);
-      own-holds = λ v h. omega (arith, doubled-lg v);
-      common-some = omega arith;
+      starts = λ v h. omega (arith, below v);
+      own-holds = λ v h. omega (arith, below v);
+      common-some = some;
       common-holds = omega arith;
     }
 
+pub bam-roomy : Roomy 0 1 bamLayout
+bam-roomy = letters-roomy bamLayout 1 (omega arith) (bam-letters .enough) (omega arith) (omega arith)
+
 pub bam2-roomy : Roomy 0 2 bam2Layout
-bam2-roomy =
-    record { starts = bam-roomy .starts; own-holds = λ v h. omega (arith, doubled-lg v); common-some = omega arith; common-holds = omega arith }
+bam2-roomy = letters-roomy bam2Layout 2 (omega arith) (bam2-letters .enough) (omega arith) (omega arith)
+
+-- a field of lg(v) + 2 bits has 2^(lg(v) + 1), at least twice v and at least 2, below its top bit
+pub doubled-lg : (v : ℕ) → 2 * max v 1 ≤ 2 ^ (lg v + 2 - 1)
+doubled-lg v = let less : lg v + 2 - 1 ≡ suc (lg v) = omega arith in rw (less, pow-succ' 2 (lg v)) (omega (arith, lg-enough v))
+
+-- so in method 4 a letter's field has twice the larger of its count and k there
+abam-doubled : (k v : ℕ) → 2 * max (max v k) 1 ≤ 2 ^ (abamLayout k .own v - 1)
+abam-doubled k v = doubled-lg (max v k)
 
 pub abam-roomy : (k : ℕ) → Roomy k 1 (abamLayout k)
 abam-roomy k =
     record {
-      starts = λ v h. omega (arith, doubled-lg (max v k));
-      own-holds = λ v h. omega (arith, doubled-lg (max v k));
+      starts = λ v h. omega (arith, abam-doubled k v);
+      own-holds = λ v h. omega (arith, abam-doubled k v);
       common-some = omega arith;
       common-holds = omega (arith, doubled-lg k);
     }

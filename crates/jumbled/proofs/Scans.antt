@@ -2,7 +2,7 @@
 use mathlib.Core.Path.{_≡_, refl, sym, ap, _∙_}
 use mathlib.Core.Bool.{Bool, true, false, cond}
 use mathlib.Core.List.{List, [], _∷_, _++_, append-assoc, append-nil, reverse, reverse-cons, reverse-reverse}
-use Prim.Native.Nat.{ℕ, _+_, _-_, _≤_, _<_}
+use Prim.Native.Nat.{ℕ, _+_, _≤_, _<_}
 use native.Mathlib.Nat.{le-trans, le-refl}
 use native.Mathlib.Omega.{arith}
 use lib.Dec.{ltb}
@@ -76,6 +76,32 @@ module _ (P : List ℕ) (k q : ℕ) (stop : List ℕ → Bool) (exact : Exact P 
       right W b e =
           rw (append-nil W) at
           (scan-right (length P) [] W (cut W) (groups W) b bytes-nil (rw (excess-nil P) (omega arith)) (ap length (append-nil W) ∙ e))
+
+-- Two exact tests make one scan: by what means a method tells an excess over k does not show in its steps
+pub scan-alike : (P : List ℕ) (k q : ℕ) {stop stop′ : List ℕ → Bool} → Exact P k q stop → Exact P k q stop′
+    → (m : ℕ) (R U : List ℕ) (groups : List (List ℕ)) → Groups q U groups → Bytes U → Bytes R → excess P R ≤ k
+    → scan stop m R groups ≡ scan stop′ m R groups
+unfolding scan
+scan-alike P k q exact exact′ m R U groups none hU hR within = refl
+scan-alike P k q {stop} {stop′} exact exact′ m R U groups (more {U = left} {groups = later} group small rest) hU hR within =
+    rw (tells exact, tells exact′)
+    (step (ltb k (excess P (group ++ R))) refl
+    (λ h. scan-alike P k q exact exact′ m (group ++ R) left later rest (bytes-front left group hU) bytes-read h))
+  where
+    bytes-group : Bytes group
+    bytes-group = bytes-back left group hU
+
+    bytes-read : Bytes (group ++ R)
+    bytes-read = bytes-append group R bytes-group hR
+
+    tells : {test : List ℕ → Bool} → Exact P k q test → test (group ++ R) ≡ ltb k (excess P (group ++ R))
+    tells e = e .tells (group ++ R) bytes-read (omega (arith, excess-append P group R bytes-group))
+
+    step : (t : Bool) → ltb k (excess P (group ++ R)) ≡ t
+        → (excess P (group ++ R) ≤ k → scan stop m (group ++ R) later ≡ scan stop′ m (group ++ R) later)
+        → cond t (stopped m (group ++ R)) (scan stop m (group ++ R) later) ≡ cond t (stopped m (group ++ R)) (scan stop′ m (group ++ R) later)
+    step true s go = refl
+    step false s go = go (ltb-false k (excess P (group ++ R)) s)
 
 -- a scan takes no byte twice
 pub scan-most : (stop : List ℕ → Bool) (m q : ℕ) (R U : List ℕ) (groups : List (List ℕ)) → Groups q U groups

@@ -6,7 +6,7 @@ use Prim.Native.Char.{code}
 use Prim.Native.String as Text
 use Rattle.jumbled.specs.Match.{cc, sum, excess, matches, select, positions}
 use Rattle.jumbled.specs.Scan.{Result, scan, singles, pairs, backward, forward}
-use Rattle.jumbled.specs.Fields.{first, lg, fieldOf, widthOf, startValue, valueOf, topSet, some, overflows, ownTopSet, errors}
+use Rattle.jumbled.specs.Fields.{first, lg, letterWidth, fieldOf, widthOf, startValue, valueOf, topSet, some, overflows, ownTopSet, errors}
 use Rattle.jumbled.specs.Heap.{occurs, rank, heapValue, heapSum, exact}
 use Rattle.jumbled.specs.Steps.{countJudged, bamScan, bam2Scan, abamScan, hcamJudged, steps}
 
@@ -50,5 +50,5 @@ Every [] = Unit {0}
 Every (r ∷ rs) = Right r × Every rs
 
 sheet : Every rows
-unfolding rows row ascii positions cc sum excess matches select scan singles pairs backward forward first lg fieldOf widthOf startValue valueOf topSet some overflows ownTopSet errors occurs rank heapValue heapSum exact countJudged bamScan bam2Scan abamScan hcamJudged steps
+unfolding rows row ascii positions cc sum excess matches select scan singles pairs backward forward first lg letterWidth fieldOf widthOf startValue valueOf topSet some overflows ownTopSet errors occurs rank heapValue heapSum exact countJudged bamScan bam2Scan abamScan hcamJudged steps
 sheet = ((refl, refl), ((refl, refl), ((refl, refl), ((refl, refl), ((refl, refl), ((refl, refl), ((refl, refl), ((refl, refl), tt))))))))

@@ -1,9 +1,10 @@
--- The fields of methods 2, 3 and 4, each a number of its own: document 01, "The five methods", 2 to 4.
+-- The fields of methods 2, 3 and 4, each a number of its own: document 01, "The five methods", 2 to 4; the widths of 2 and 3 as document 02, T-03,
+-- has them.
 -- A letter c of P has the field c. All other letters share the field 256.
 use Prim.Native.Nat.{ℕ, zero, suc, _+_, _-_, _/_, _%_, _^_, max}
 use mathlib.Core.Bool.{Bool, false, cond, _||_}
 use mathlib.Core.List.{List, [], _∷_, map}
-use lib.Dec.{leb, eqb}
+use lib.Dec.{leb, ltb, eqb}
 use Rattle.jumbled.specs.Match.{bit, cc, sum}
 
 -- The first of e, e + 1, ... that passes the test, the test being tried `tries` times at most
@@ -14,6 +15,11 @@ first test e (suc tries) = cond (test e) e (first test (suc e) tries)
 -- lg(v): the smallest e with 2^e ≥ max(v, 1). Since 2^v ≥ max(v, 1), v tries are enough.
 unfoldable pub lg : ℕ → ℕ
 lg v = first (λ e. leb (max v 1) (2 ^ e)) 0 v
+
+-- The width of the field of a letter that P has v times, in methods 2 and 3: the smallest g, of at least one bit, with 2^(g-1) > v (document 02,
+-- T-03). Since 2^v > v, v tries are enough.
+unfoldable pub letterWidth : ℕ → ℕ
+letterWidth v = first (λ g. ltb v (2 ^ (g - 1))) 1 v
 
 -- The number of the field that all letters outside P share
 abbrev pub shared : ℕ
@@ -32,13 +38,13 @@ pub record Layout : Type 0 where
   pub own : ℕ → ℕ
   pub common : ℕ
 
--- Method 2: lg(cc(P, c)) + 2 bits, and 1 shared
+-- Method 2: letterWidth(cc(P, c)) bits, and 1 shared
 abbrev pub bamLayout : Layout
-bamLayout = record { own = λ v. lg v + 2; common = 1 }
+bamLayout = record { own = letterWidth; common = 1 }
 
 -- Method 3: as 2, and 2 shared
 abbrev pub bam2Layout : Layout
-bam2Layout = record { own = λ v. lg v + 2; common = 2 }
+bam2Layout = record { own = letterWidth; common = 2 }
 
 -- Method 4: lg(max(cc(P, c), k)) + 2 bits, and lg(k) + 2 shared
 abbrev pub abamLayout : ℕ → Layout

@@ -5,3 +5,4 @@ pub mod Fields
 pub mod Heap
 pub mod Steps
 pub mod Refusals
+pub mod Former

@@ -5,7 +5,7 @@ use mathlib.Core.Bool.{Bool, false, cond, not, _&&_, _||_}
 use mathlib.Core.List.{List, [], _∷_, _++_}
 use lib.Dec.{leb, ltb, eqb}
 use lib.ListN.{length, getD}
-use Rattle.jumbled.specs.Fields.{layoutOf, bits}
+use Rattle.jumbled.specs.Fields.{Layout, layoutOf, bits}
 
 -- A row of the table: its number, and whether its condition holds
 pub record Test : Type 0 where
@@ -78,9 +78,13 @@ knownTests method = test 3 (not (isMethod method)) ∷ []
 unfoldable pub exactTests : ℕ → ℕ → List Test
 exactTests k method = test 4 (ltb 0 k && exactOnly method) ∷ []
 
--- 5, of the fields of a method for a pattern and k
+-- 5, of a pattern's fields of these widths
+abbrev pub fieldTests : List ℕ → Layout → List Test
+fieldTests P layout = test 5 (ltb 64 (bits P layout)) ∷ []
+
+-- and of those of a method, for k
 unfoldable pub widthTests : List ℕ → ℕ → ℕ → List Test
-widthTests P k method = test 5 (ltb 64 (bits P (layoutOf k method))) ∷ []
+widthTests P k method = fieldTests P (layoutOf k method)
 
 -- 6, of so many bytes, where `longest` are the most
 abbrev pub longTests : (longest bytes : ℕ) → List Test

@@ -7,20 +7,24 @@ use lib.Dec.{ltb, eqb}
 use lib.ListN.{length}
 use Rattle.jumbled.specs.Match.{matches, window, starts, select}
 use Rattle.jumbled.specs.Scan.{Result, nothing, Scanned, scan, singles, pairs, backward, Judged, unverified, forward}
-use Rattle.jumbled.specs.Fields.{bamLayout, bam2Layout, abamLayout, overflows, errors}
+use Rattle.jumbled.specs.Fields.{Layout, bamLayout, bam2Layout, abamLayout, overflows, errors}
 use Rattle.jumbled.specs.Heap.{heapSum, exact}
 
 -- 1: a sliding window; the window is judged by its counts
 unfoldable pub countJudged : List ℕ → ℕ → List ℕ → Judged
 countJudged P k W = unverified (matches P k W)
 
--- 2: one byte a step; stops where a field's top bit is set
-unfoldable pub bamScan : List ℕ → List ℕ → Scanned
-bamScan P W = scan (overflows P bamLayout) (length P) [] (singles (reverse W))
+-- 2 and 3, with fields of these widths and these groups of bytes a step: stops where a field's top bit is set
+abbrev pub packedScan : Layout → (grouped : List ℕ → List (List ℕ)) → List ℕ → List ℕ → Scanned
+packedScan layout grouped P W = scan (overflows P layout) (length P) [] (grouped (reverse W))
 
--- 3: two bytes a step; stops where a field's top bit is set
+-- 2: one byte a step
+unfoldable pub bamScan : List ℕ → List ℕ → Scanned
+bamScan P W = packedScan bamLayout singles P W
+
+-- 3: two bytes a step
 unfoldable pub bam2Scan : List ℕ → List ℕ → Scanned
-bam2Scan P W = scan (overflows P bam2Layout) (length P) [] (pairs (reverse W))
+bam2Scan P W = packedScan bam2Layout pairs P W
 
 -- 4: one byte a step; stops where the errors pass k
 unfoldable pub abamScan : List ℕ → ℕ → List ℕ → Scanned

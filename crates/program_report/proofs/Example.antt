@@ -4,7 +4,7 @@ use mathlib.Core.Path.{_≡_, refl}
 use lib.ListN.{replicate}
 use Rattle.jumbled.specs.Match.{cc, sum, excess, matches, select, positions}
 use Rattle.jumbled.specs.Scan.{scan, singles, backward}
-use Rattle.jumbled.specs.Fields.{first, lg, fieldOf, layoutOf, widthOf, bits, startValue, valueOf, topSet, some, overflows}
+use Rattle.jumbled.specs.Fields.{first, letterWidth, fieldOf, layoutOf, widthOf, bits, startValue, valueOf, topSet, some, overflows}
 use Rattle.jumbled.specs.Steps.{bamScan, steps}
 use Rattle.jumbled.specs.Refusals.{given, isMethod, exactOnly, lengthTests, toleranceTests, knownTests, exactTests, widthTests, inputTests, lineTests, methodTests, patternTests, requestTests, programTests}
 use Rattle.program_request.specs.Line.{has, beforeFirst, afterFirst, digit, methodForm, toleranceForm, methodField, toleranceField, patternField, goodLine}
@@ -15,7 +15,7 @@ use Rattle.program_lines.specs.Lines.{numberLine, header, countsLine, outputTex
 use Rattle.program_report.specs.Output.{requestRefusal, output}
 
 printed : output (ascii "2 0 abc\nabcxxxabc\n") ≡ ascii "mix abc method 2 k 0\n0\n6\nfound 2 looks 9\n"
-unfolding cc sum excess matches select positions scan singles backward first lg fieldOf layoutOf widthOf bits startValue valueOf topSet some overflows bamScan steps given isMethod exactOnly lengthTests toleranceTests knownTests exactTests widthTests inputTests lineTests methodTests patternTests requestTests programTests has beforeFirst afterFirst digit methodForm toleranceForm decimalValue firstLine methodField toleranceField patternField goodLine requestMethod requestTolerance requestPattern lessNewline requestText badLine requestRefusal ascii digits decimal numberLine header flatMap countsLine outputText refusalText output
+unfolding cc sum excess matches select positions scan singles backward first letterWidth fieldOf layoutOf widthOf bits startValue valueOf topSet some overflows bamScan steps given isMethod exactOnly lengthTests toleranceTests knownTests exactTests widthTests inputTests lineTests methodTests patternTests requestTests programTests has beforeFirst afterFirst digit methodForm toleranceForm decimalValue firstLine methodField toleranceField patternField goodLine requestMethod requestTolerance requestPattern lessNewline requestText badLine requestRefusal ascii digits decimal numberLine header flatMap countsLine outputText refusalText output
 printed = refl
 
 no-newline : output (ascii "abc") ≡ ascii "refused 11\n"

@@ -8,7 +8,7 @@ use native.Mathlib.Omega.{arith}
 use lib.ListN.{drop, replicate}
 use Rattle.jumbled.specs.Match.{cc, sum, excess, matches, select, positions}
 use Rattle.jumbled.specs.Scan.{scan, singles, backward}
-use Rattle.jumbled.specs.Fields.{first, lg, fieldOf, layoutOf, widthOf, bits, startValue, valueOf, topSet, some, overflows}
+use Rattle.jumbled.specs.Fields.{first, letterWidth, fieldOf, layoutOf, widthOf, bits, startValue, valueOf, topSet, some, overflows}
 use Rattle.jumbled.specs.Steps.{bamScan, steps}
 use Rattle.jumbled.specs.Refusals.{given, isMethod, exactOnly, lengthTests, toleranceTests, knownTests, exactTests, widthTests, textTests, placeTests, totalTests, tailTests, formTests, bufferTests, methodTests, patternTests, sizeTests, searchTests, chunkTests, feedTests, setMethodTests, saveTests, loadTests}
 use Rattle.lent.specs.Placed.{placed, shifted}
@@ -77,7 +77,7 @@ record Calls : Type 0 where
   load-b : LoadsAs (imageAt 2 98) (searchAt 2 b)
 
 calls : Calls
-unfolding given isMethod exactOnly lengthTests toleranceTests knownTests exactTests widthTests textTests placeTests totalTests tailTests formTests bufferTests methodTests patternTests sizeTests searchTests chunkTests feedTests setMethodTests saveTests loadTests cc sum excess matches select positions scan singles backward first lg fieldOf layoutOf widthOf bits startValue valueOf topSet some overflows bamScan steps placed shifted lowFirst body flatMap image saveOrder fromLowFirst entriesIn contents lengthIn lengthsBefore lengths bodyOf times kindsRight badForm handedTests handedNumber openNumber feedNumber setMethodNumber saveNumber partsTests loadNumber
+unfolding given isMethod exactOnly lengthTests toleranceTests knownTests exactTests widthTests textTests placeTests totalTests tailTests formTests bufferTests methodTests patternTests sizeTests searchTests chunkTests feedTests setMethodTests saveTests loadTests cc sum excess matches select positions scan singles backward first letterWidth fieldOf layoutOf widthOf bits startValue valueOf topSet some overflows bamScan steps placed shifted lowFirst body flatMap image saveOrder fromLowFirst entriesIn contents lengthIn lengthsBefore lengths bodyOf times kindsRight badForm handedTests handedNumber openNumber feedNumber setMethodNumber saveNumber partsTests loadNumber
 calls =
     record {
       fresh-search = record { number = refl; search = refl };

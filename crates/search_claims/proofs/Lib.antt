@@ -1,5 +1,7 @@
--- The sentences of the demands (Consequences), what save and load say of each other (RoundTrip), and series worked out (Example). They rest on
--- the theorem's statement, on the contracts, and on laws about the definitions; the theorem's invariant can't be named here.
+-- The sentences of the demands (Consequences), what has stayed as it was (AsBefore), what save and load say of each other (RoundTrip), and series
+-- worked out (Example). They rest on the theorem's statement, on the contracts, and on laws about the definitions; the theorem's invariant can't be
+-- named here.
 pub mod Consequences
+pub mod AsBefore
 pub mod RoundTrip
 pub mod Example

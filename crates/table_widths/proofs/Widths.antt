@@ -10,13 +10,13 @@ use native.Mathlib.Nat.{le-antisymm, max-le}
 use native.Mathlib.Omega.{arith}
 use lib.Pow.{pow-pos, pow-mono}
 use borrow.Author.Tests.{ne-eqb}
-use Rattle.jumbled.specs.Fields.{lg, Layout, bamLayout, bam2Layout, abamLayout, noLayout, layoutOf, widthOf, bits}
+use Rattle.jumbled.specs.Fields.{lg, letterWidth, Layout, bamLayout, bam2Layout, abamLayout, noLayout, layoutOf, widthOf, bits}
 use Rattle.jumbled.specs.Match.{cc, sum}
 use Rattle.jumbled.proofs.Sums.{below-or-not, sum-suc, sum-zeros}
 use Rattle.jumbled.proofs.Counts.{cc-length}
 use Rattle.table_parikh.specs.Table.{parikh}
 use Rattle.table_parikh.proofs.Parikh.{getD-parikh}
-use Rattle.jumbled.proofs.Lg.{lg-enough, lg-least}
+use Rattle.jumbled.proofs.Lg.{lg-enough, lg-least, bam-letters}
 use Rattle.jumbled.proofs.Overflow.{Roomy, bam-roomy, bam2-roomy, abam-roomy, width-shared}
 
 -- ---- lg
@@ -32,6 +32,10 @@ lg-more v e h =
 -- and where it is not, lg(v) has been reached
 pub lg-reached : (v e : ℕ) → v ≤ 2 ^ e → e ≤ lg v → e ≡ lg v
 lg-reached v e h l = le-antisymm l (lg-least v e (omega (arith, pow-pos e)))
+
+-- a letter's width is at most 8 bits
+pub letter-le : (v : ℕ) → v ≤ 64 → letterWidth v ≤ 8
+letter-le v h = bam-letters .least v 8 (lit≤ tt) (omega arith)
 
 -- ---- the layouts by the method's number
 
@@ -52,7 +56,7 @@ unfolding layoutOf
 layout-none k method e2 e3 e4 = rw (ne-eqb method 2 e2, ne-eqb method 3 e3, ne-eqb method 4 e4) refl
 
 -- methods 2 and 3 have the same widths of their own fields
-pub own-2-3 : (k method v : ℕ) → 2 ≤ method → method < 4 → layoutOf k method .own v ≡ lg v + 2
+pub own-2-3 : (k method v : ℕ) → 2 ≤ method → method < 4 → layoutOf k method .own v ≡ letterWidth v
 own-2-3 k method v l h =
     ⊎-elim (λ (m : method < 3). ap (λ (L : Layout). L .own v) (layout-2 k method (omega arith)))
     (λ (m : 3 ≤ method). ap (λ (L : Layout). L .own v) (layout-3 k method (omega arith))) (below-or-not method 3)
@@ -71,8 +75,8 @@ larger-le v k hk hv = lg-le (max v k) (max-le hv hk)
 pub layout-narrow : (k method : ℕ) → k ≤ 64 → Narrow (layoutOf k method)
 unfolding layoutOf
 layout-narrow k method h =
-    either (eqb method 2) (record { own-most = λ v l. omega (arith, lg-le v l); common-most = lit≤ tt })
-    (either (eqb method 3) (record { own-most = λ v l. omega (arith, lg-le v l); common-most = lit≤ tt })
+    either (eqb method 2) (record { own-most = letter-le; common-most = lit≤ tt })
+    (either (eqb method 3) (record { own-most = letter-le; common-most = lit≤ tt })
     (either (eqb method 4)
     (record { own-most = λ v l. omega (arith, larger-le v k h l); common-most = omega (arith, lg-le k h) })
     (record { own-most = λ v l. lit≤ tt; common-most = lit≤ tt })))

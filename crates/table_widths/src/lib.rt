@@ -1,10 +1,10 @@
-// How wide the fields of methods 2, 3 and 4 are: document 01, "The five methods".
+// How wide the fields of methods 2, 3 and 4 are: document 01, "The five methods", and document 02, T-03.
 
 ghost use mathlib.Core.Path.{_≡_};
 ghost use Prim.Native.Nat.{_≤_, max};
 ghost use lib.ListN.{length};
 ghost use Rattle.jumbled.specs.Match.{sum};
-ghost use Rattle.jumbled.specs.Fields.{lg as lgOf, layoutOf, widthOf, bits};
+ghost use Rattle.jumbled.specs.Fields.{lg as lgOf, letterWidth, layoutOf, widthOf, bits};
 ghost use Rattle.table_parikh.specs.Table.{parikh};
 ghost use Rattle.table_widths.specs.Counted.{PatternCounted};
 use table_parikh::Span;
@@ -23,19 +23,28 @@ pub fn lg(v: usize) -> usize
     e
 }
 
+// The width of the field of a byte that the pattern has count times, in methods 2 and 3: document 02, T-03. `lg` is promised up to 64
+// only, so it is not asked for 65.
+fn letter_width(count: usize) -> usize
+    requires { ⌜ count ≤ 64 ⌝ }
+    ensures { λ r. ⌜ r ≡ letterWidth count ⌝ }
+{
+    if count < 64 { lg(count + 1) + 1 } else { 8 }
+}
+
 fn larger(a: usize, b: usize) -> usize
     ensures { λ r. ⌜ r ≡ max a b ⌝ }
 {
     if a < b { b } else { a }
 }
 
-// The width of the field of a byte that the pattern has count times: document 01, "The five methods", 2 to 4.
+// The width of the field of a byte that the pattern has count times: document 01, "The five methods", 2 to 4, and document 02, T-03.
 pub fn own_width(count: usize, k: usize, method: u8) -> usize
     requires { ⌜ (count ≤ 64) × (k ≤ 64) ⌝ }
     ensures { λ r. ⌜ r ≡ layoutOf k method .own count ⌝ }
 {
     match method {
-        2 | 3 => lg(count) + 2,
+        2 | 3 => letter_width(count),
         4 => lg(larger(count, k)) + 2,
         _ => 0,
     }

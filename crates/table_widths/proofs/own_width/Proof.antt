@@ -17,11 +17,8 @@ lg-requires c κs = search needs
 add-result : tie.Need-add-result
 add-result c = omega (arith, lg-le _ (lg-requires (c .before) tt))
 
-lg-requires-2 : tie.Need-lg-requires-2
-lg-requires-2 c κs = search needs
-
-add-result-2 : tie.Need-add-result-2
-add-result-2 c = omega (arith, lg-le _ (lg-requires-2 (c .before) tt))
+letter-width-requires : tie.Need-letter-width-requires
+letter-width-requires c κs = search needs
 
 returns : tie.Need-returns
 returns c =
@@ -32,7 +29,7 @@ returns c =
 returns-2 : tie.Need-returns-2
 returns-2 c =
     let a = c .before .before .before .before .args in
-    ap (λ (e : ℕ). e + 2) (c .lg2 .ensures) ∙ sym (own-2-3 (a .k) (a .method) (a .count) (omega arith) (omega arith))
+    c .letter-width .ensures ∙ sym (own-2-3 (a .k) (a .method) (a .count) (omega arith) (omega arith))
 
 returns-3 : tie.Need-returns-3
 returns-3 c =
@@ -51,8 +48,7 @@ own-width-spec =
     larger-requires
     lg-requires
     add-result
-    lg-requires-2
-    add-result-2
+    letter-width-requires
     returns
     returns-2
     returns-3
