@@ -1,9 +1,9 @@
 -- How a loop's listing grows: by a window that is listed, and by one that is not.
 use mathlib.Core.Path.{_≡_, refl, sym, ap, ap₂, _∙_}
 use mathlib.Core.Bool.{Bool, true, false}
-use mathlib.Core.List.{List, [], _∷_, _++_, append-assoc, append-nil}
+use mathlib.Core.List.{List, [], _∷_, _++_, append-nil}
 use Prim.Native.Nat.{ℕ, suc, _+_, _-_, _≤_, _<_}
-use native.Mathlib.Nat.{add-zero, add-assoc}
+use native.Mathlib.Nat.{add-zero}
 use native.Mathlib.Omega.{arith}
 use lib.ListN.{length, set, length-append}
 use Rattle.jumbled.specs.Scan.{Result, nothing, note, through}
@@ -16,15 +16,6 @@ use Rattle.lent.proofs.Placing.{placed-nil, placed-next, length-placed,
 -- one window's share alone
 abbrev pub share : Bool → ℕ → ℕ → Result
 share t s taken = note t s taken nothing
-
-pub note-share : (t : Bool) (s taken : ℕ) (rest : Result) → note t s taken rest ≡ share t s taken then rest
-note-share true s taken rest = ap (λ (n : ℕ). record { occurrences = s ∷ rest .occurrences; inspections = n + rest .inspections }) (sym (add-zero taken))
-note-share false s taken rest = ap (λ (n : ℕ). record { occurrences = rest .occurrences; inspections = n + rest .inspections }) (sym (add-zero taken))
-
-pub then-assoc : (a b c : Result) → (a then b) then c ≡ a then (b then c)
-then-assoc a b c =
-    ap₂ (λ (l : List ℕ) (n : ℕ). record { occurrences = l; inspections = n })
-    (append-assoc (a .occurrences) (b .occurrences) (c .occurrences)) (add-assoc (a .inspections) (b .inspections) (c .inspections))
 
 pub then-nothing : (a : Result) → a then nothing ≡ a
 then-nothing a = ap₂ (λ (l : List ℕ) (n : ℕ). record { occurrences = l; inspections = n }) (append-nil (a .occurrences)) (add-zero (a .inspections))

@@ -9,7 +9,6 @@ use lib.ListN.{length, length-drop}
 use borrow.Author.Tests.{ltb-true}
 use Rattle.jumbled.proofs.Admission.{request-taken}
 use Rattle.program_request.specs.Line.{has, beforeFirst, afterFirst, goodLine}
-use Rattle.program_request.specs.Reading.{patternPlace}
 use Rattle.program_request.specs.Request.{firstLine, requestMethod, requestTolerance, requestPattern, requestText, badLine, requestNumber}
 use Rattle.program_request.specs.Parsing.{Asked, refusedWith, asked, meaning, between, Places, places, Parses}
 use Rattle.program_request.specs.declared.Parsed.{Parsed}

@@ -6,10 +6,10 @@ use Prim.Native.Nat.{ℕ, zero, suc, _+_, _-_, _≤_, _<_}
 use native.Mathlib.Nat.{suc-sub-suc, sub-zero, zero-sub}
 use native.Mathlib.Omega.{arith}
 use lib.ListN.{length, take, drop}
-use lib.Seq.{take-nil, length-take-le}
+use lib.Seq.{take-nil}
 use borrow.Author.Tests.{lt-ltb, le-ltb}
 use Rattle.jumbled.specs.Refusals.{given, inputTests, lineTests, requestTests}
-use Rattle.program_request.specs.Line.{has, beforeFirst, afterFirst, goodLine, patternField}
+use Rattle.program_request.specs.Line.{has, beforeFirst, afterFirst, goodLine}
 use Rattle.program_request.specs.Request.{lessNewline, firstLine, requestMethod, requestTolerance, requestPattern, requestText, badLine, requestNumber}
 use Rattle.program_request.specs.Reading.{patternPlace}
 use Rattle.program_request.specs.Parsing.{Asked, asked, Places, places, Parses}

@@ -2,9 +2,8 @@
 // eight bits, the first one the lowest. In the window's word a field's top bit says that the pattern is found. In a byte's word it says that the
 // pattern has more of the byte than the window, so that one more would be acceptable.
 
-ghost use Prim.Native.Nat.{_*_, _+_, _^_, _≤_, _<_};
+ghost use Prim.Native.Nat.{_*_, _+_, _≤_, _<_};
 ghost use mathlib.Core.Path.{_≡_};
-ghost use lib.ListN.{length, getD};
 ghost use Rattle.several_fields.specs.Words.{FieldsFor, Placeable, unitsAdded, Placing, Placed, Taking, Taken, Giving, Given};
 
 // What all words of a search have in common.

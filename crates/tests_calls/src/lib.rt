@@ -1,7 +1,7 @@
 // The call that each stored case asks for, and what it came to (tools/vectors_stream.py). specs/ says which call that is.
 ghost use mathlib.Core.Path.{_≡_};
 ghost use mathlib.Core.List.{List, _++_};
-ghost use Prim.Native.Nat.{ℕ, min, _<_};
+ghost use Prim.Native.Nat.{ℕ, _<_};
 ghost use lib.ListN.{length};
 ghost use Rattle.search.specs.Calls.{Feeds, Saves};
 ghost use Rattle.search_whole.specs.Whole.{Whole};

@@ -1,7 +1,7 @@
 -- A number that is read low byte first, from its highest byte down.
 use mathlib.Core.Path.{_≡_, ap, _∙_}
 use mathlib.Core.List.{List, _∷_}
-use Prim.Native.Nat.{ℕ, zero, suc, _+_, _*_, _-_, _^_, _≤_, _<_}
+use Prim.Native.Nat.{ℕ, suc, _+_, _*_, _-_, _^_, _≤_, _<_}
 use native.Mathlib.Nat.{pow-suc, pow-le-pow-right, sub-self}
 use native.Mathlib.Omega.{arith}
 use lib.ListN.{length, getD, drop}

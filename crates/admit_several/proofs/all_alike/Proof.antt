@@ -9,8 +9,6 @@ use borrow.Author.Tests.{eq-eqb, ne-eqb}
 use Rattle.jumbled.proofs.Selections.{any-at, any-none, NoneBefore, none-next}
 use Rattle.admit_several.proofs.all_alike.Statement.{statement}
 use Rattle.admit_several.proofs.all_alike.Tie as tie
-use Rattle.admit_several.proofs.all_alike.Reads as reads
-use Rattle.admit_several.proofs.all_alike.Lts as lts
 
 abbrev Inv-loop : tie.InvT-loop
 Inv-loop lengths m each₀ each-end each = (each ≤ length lengths) × NoneBefore (λ x. not (eqb x m)) lengths each

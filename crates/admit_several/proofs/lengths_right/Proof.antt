@@ -9,8 +9,6 @@ use Rattle.jumbled.specs.Refusals.{badLength}
 use Rattle.jumbled.proofs.Selections.{any-at, any-none, NoneBefore, none-next}
 use Rattle.admit_several.proofs.lengths_right.Statement.{statement}
 use Rattle.admit_several.proofs.lengths_right.Tie as tie
-use Rattle.admit_several.proofs.lengths_right.Reads as reads
-use Rattle.admit_several.proofs.lengths_right.Lts as lts
 
 abbrev Inv-loop : tie.InvT-loop
 Inv-loop lengths i₀ i-end i = (i ≤ length lengths) × NoneBefore badLength lengths i

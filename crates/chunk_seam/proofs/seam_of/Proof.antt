@@ -8,7 +8,6 @@ use native.Mathlib.Omega.{arith}
 use lib.ListN.{length, take, replicate, length-take, length-replicate}
 use lib.Seq.{take-all, take-length, length-take-le}
 use Rattle.jumbled.proofs.Sums.{below-or-not}
-use Rattle.lent.specs.Placed.{placed}
 use Rattle.lent.specs.Written.{Written}
 use Rattle.lent.proofs.Writing.{written-then}
 use Rattle.chunk_seam.specs.declared.Seam as S

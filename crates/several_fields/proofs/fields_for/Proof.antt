@@ -11,8 +11,6 @@ use Rattle.several_fields.specs.Words.{fieldBits, packed}
 use Rattle.several_fields.proofs.Packing.{packed-more, unit-at, packed-fits, packed-scale}
 use Rattle.several_fields.proofs.fields_for.Statement.{statement}
 use Rattle.several_fields.proofs.fields_for.Tie as tie
-use Rattle.several_fields.proofs.fields_for.Reads as reads
-use Rattle.several_fields.proofs.fields_for.Lts as lts
 
 abbrev Inv-loop : tie.InvT-loop
 Inv-loop count waiting ones₀ field₀ ones field = (field ≤ count) × (ones ≡ packed (λ f. 1) field)

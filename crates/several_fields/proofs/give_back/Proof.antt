@@ -6,8 +6,6 @@ use borrow.Author.Needs.{needs}
 use Rattle.several_fields.proofs.Rooms.{give-fits, give-below, give-words}
 use Rattle.several_fields.proofs.give_back.Statement.{statement}
 use Rattle.several_fields.proofs.give_back.Tie as tie
-use Rattle.several_fields.proofs.give_back.Reads as reads
-use Rattle.several_fields.proofs.give_back.Lts as lts
 
 is-byte : (c : tie.Start) → c .args .byte < 256
 is-byte c = let fits : Fits w8 (c .args .byte) = search needs in fits .fits

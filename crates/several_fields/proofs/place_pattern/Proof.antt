@@ -9,8 +9,6 @@ use Rattle.several_fields.specs.Words.{unitsAdded}
 use Rattle.several_fields.proofs.Placing.{added-none, added-more, added-fits}
 use Rattle.several_fields.proofs.place_pattern.Statement.{statement}
 use Rattle.several_fields.proofs.place_pattern.Tie as tie
-use Rattle.several_fields.proofs.place_pattern.Reads as reads
-use Rattle.several_fields.proofs.place_pattern.Lts as lts
 
 abbrev Inv-loop : tie.InvT-loop
 Inv-loop pattern unit rooms₀ i₀ i-end rooms i = (i ≤ length pattern) × (rooms ≡ unitsAdded (take i pattern) unit rooms₀)

@@ -8,8 +8,6 @@ use Rattle.table_parikh.specs.Table.{tabulate}
 use Rattle.several_fields.proofs.Placing.{placedWord, placed-none, part-able, part-added, placed-all}
 use Rattle.several_fields.proofs.place_patterns.Statement.{statement}
 use Rattle.several_fields.proofs.place_patterns.Tie as tie
-use Rattle.several_fields.proofs.place_patterns.Reads as reads
-use Rattle.several_fields.proofs.place_patterns.Lts as lts
 use Rattle.several_fields.proofs.place_pattern.Reads as place-pattern-reads
 
 abbrev Inv-loop : tie.InvT-loop

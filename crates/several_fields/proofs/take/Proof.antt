@@ -6,8 +6,6 @@ use borrow.Author.Needs.{needs}
 use Rattle.several_fields.proofs.Rooms.{take-room, take-fits, take-words}
 use Rattle.several_fields.proofs.take.Statement.{statement}
 use Rattle.several_fields.proofs.take.Tie as tie
-use Rattle.several_fields.proofs.take.Reads as reads
-use Rattle.several_fields.proofs.take.Lts as lts
 
 is-byte : (c : tie.Start) → c .args .byte < 256
 is-byte c = let fits : Fits w8 (c .args .byte) = search needs in fits .fits

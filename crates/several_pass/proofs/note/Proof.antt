@@ -11,8 +11,6 @@ use Rattle.several_pass.specs.Passing.{Noted, topsSet}
 use Rattle.several_pass.proofs.Noting.{noted-none, noted-lengths, noted-one, few-set, set-more, set-same}
 use Rattle.several_pass.proofs.note.Statement.{statement}
 use Rattle.several_pass.proofs.note.Tie as tie
-use Rattle.several_pass.proofs.note.Reads as reads
-use Rattle.several_pass.proofs.note.Lts as lts
 
 abbrev Inv-loop : tie.InvT-loop
 Inv-loop word count s positions₀ numbers₀ at next₀ field₀ positions numbers next field =

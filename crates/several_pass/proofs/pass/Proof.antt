@@ -9,8 +9,6 @@ use Rattle.several_pass.specs.Passing.{SearchedFor, Passable, Startable}
 use Rattle.several_pass.proofs.Turns.{several, Running, same-lengths, whole, places, taking, giving, noted-window, noted-nothing, begun, passed, passed-none, rooms-left, rooms-kept}
 use Rattle.several_pass.proofs.pass.Statement.{statement}
 use Rattle.several_pass.proofs.pass.Tie as tie
-use Rattle.several_pass.proofs.pass.Reads as reads
-use Rattle.several_pass.proofs.pass.Lts as lts
 use Rattle.several_fields.proofs.give_back.Reads as give-back-reads
 use Rattle.several_fields.proofs.take.Reads as take-reads
 use Rattle.several_pass.proofs.note.Reads as note-reads

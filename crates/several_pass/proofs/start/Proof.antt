@@ -9,8 +9,6 @@ use Rattle.several_fields.specs.Words.{WordsOf, Taking}
 use Rattle.several_pass.specs.Passing.{Startable}
 use Rattle.several_pass.proofs.start.Statement.{statement}
 use Rattle.several_pass.proofs.start.Tie as tie
-use Rattle.several_pass.proofs.start.Reads as reads
-use Rattle.several_pass.proofs.start.Lts as lts
 use Rattle.several_fields.proofs.take.Reads as take-reads
 
 abbrev Inv-loop : tie.InvT-loop

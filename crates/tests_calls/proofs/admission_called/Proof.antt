@@ -1,7 +1,5 @@
 -- `tests_calls::admission_called` meets its contract.
 use borrow.Author.Needs.{needs}
-use Rattle.tests_calls.proofs.admission_called.Reads as reads
-use Rattle.tests_calls.proofs.admission_called.Lts as lts
 use Rattle.tests_calls.proofs.admission_called.Statement.{statement}
 use Rattle.tests_calls.proofs.admission_called.Tie as tie
 

@@ -1,7 +1,5 @@
 -- `tests_calls::answer_called` meets its contract.
 use borrow.Author.Needs.{needs}
-use Rattle.tests_calls.proofs.answer_called.Reads as reads
-use Rattle.tests_calls.proofs.answer_called.Lts as lts
 use Rattle.tests_outcomes.proofs.Digesting.{digested-append}
 use Rattle.tests_calls.proofs.answer_called.Statement.{statement}
 use Rattle.tests_calls.proofs.answer_called.Tie as tie

@@ -1,7 +1,5 @@
 -- `tests_calls::call_feed` meets its contract.
 use borrow.Author.Needs.{needs}
-use Rattle.tests_calls.proofs.call_feed.Reads as reads
-use Rattle.tests_calls.proofs.call_feed.Lts as lts
 use Rattle.tests_calls.proofs.call_feed.Statement.{statement}
 use Rattle.tests_calls.proofs.call_feed.Tie as tie
 

@@ -1,7 +1,5 @@
 -- `tests_calls::call_save` meets its contract.
 use borrow.Author.Needs.{needs}
-use Rattle.tests_calls.proofs.call_save.Reads as reads
-use Rattle.tests_calls.proofs.call_save.Lts as lts
 use Rattle.tests_stream.proofs.Filling.{filled-part}
 use mathlib.Core.Path.{_≡_}
 use mathlib.Core.List.{List}

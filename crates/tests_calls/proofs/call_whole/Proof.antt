@@ -1,7 +1,5 @@
 -- `tests_calls::call_whole` meets its contract.
 use borrow.Author.Needs.{needs}
-use Rattle.tests_calls.proofs.call_whole.Reads as reads
-use Rattle.tests_calls.proofs.call_whole.Lts as lts
 use Rattle.tests_calls.proofs.call_whole.Statement.{statement}
 use Rattle.tests_calls.proofs.call_whole.Tie as tie
 

@@ -1,7 +1,5 @@
 -- `tests_calls::exact` meets its contract.
 use borrow.Author.Needs.{needs}
-use Rattle.tests_calls.proofs.exact.Reads as reads
-use Rattle.tests_calls.proofs.exact.Lts as lts
 use borrow.Author.Tests.{lt-ltb, le-ltb}
 use Rattle.tests_calls.specs.Calls.{exactNumber}
 use Rattle.tests_calls.proofs.exact.Statement.{statement}

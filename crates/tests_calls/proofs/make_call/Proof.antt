@@ -1,7 +1,5 @@
 -- `tests_calls::make_call` meets its contract: an arm a kind.
 use borrow.Author.Needs.{needs}
-use Rattle.tests_calls.proofs.make_call.Reads as reads
-use Rattle.tests_calls.proofs.make_call.Lts as lts
 use borrow.Author.Tests.{ne-eqb}
 use mathlib.Core.Path.{refl}
 use Rattle.tests_calls.specs.Calls.{CallMade}

@@ -1,7 +1,5 @@
 -- `tests_calls::save_into` meets its contract.
 use borrow.Author.Needs.{needs}
-use Rattle.tests_calls.proofs.save_into.Reads as reads
-use Rattle.tests_calls.proofs.save_into.Lts as lts
 use Rattle.tests_calls.proofs.save_into.Statement.{statement}
 use Rattle.tests_calls.proofs.save_into.Tie as tie
 

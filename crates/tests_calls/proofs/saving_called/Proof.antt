@@ -1,7 +1,5 @@
 -- `tests_calls::saving_called` meets its contract.
 use borrow.Author.Needs.{needs}
-use Rattle.tests_calls.proofs.saving_called.Reads as reads
-use Rattle.tests_calls.proofs.saving_called.Lts as lts
 use Rattle.tests_outcomes.proofs.Digesting.{digested-append}
 use Rattle.tests_calls.proofs.saving_called.Statement.{statement}
 use Rattle.tests_calls.proofs.saving_called.Tie as tie

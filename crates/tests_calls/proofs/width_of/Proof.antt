@@ -1,7 +1,5 @@
 -- `tests_calls::width_of` meets its contract.
 use borrow.Author.Needs.{needs}
-use Rattle.tests_calls.proofs.width_of.Reads as reads
-use Rattle.tests_calls.proofs.width_of.Lts as lts
 use borrow.Author.Tests.{lt-ltb, le-ltb}
 use Rattle.tests_calls.specs.Calls.{widthNumber}
 use Rattle.tests_calls.proofs.width_of.Statement.{statement}

@@ -1,5 +1,5 @@
 -- `search::Search::checked` meets its contract.
-use mathlib.Core.Path.{_≡_, sym}
+use mathlib.Core.Path.{_≡_}
 use native.Mathlib.Omega.{arith}
 use lib.ListN.{length, length-take}
 use Rattle.answers.specs.declared.Refusal.the-variants.{PatternLength}
