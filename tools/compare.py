@@ -5,8 +5,8 @@ with the sheet of small records.
     python3 tools/compare.py path/to/mixlist
 
 Four parts, all made from one fixed seed: (a) the sheet, the widths under it
-and the examples of the refusals against reference.py, and the marked sheet
-against another description of it, byte by byte; (b) made inputs run
+and the examples of the refusals against reference.py, and method 6 and the
+marked sheet against other descriptions of them; (b) made inputs run
 through mixlist, once per input, and its output compared byte for byte with
 the reference's; (c) inputs around the longest one, read by mixlist from a
 file and from a pipe that delivers them in pieces; (d) series of feeds, saves,
@@ -30,7 +30,7 @@ sys.dont_write_bytecode = True
 import reference as ref
 
 SEED = 20260101
-METHODS = (1, 2, 3, 4, 5)
+METHODS = (1, 2, 3, 4, 5, 6)
 ORDERS = list(itertools.permutations((1, 2, 3, 4)))
 
 
@@ -80,16 +80,17 @@ class Tally:
 
 # --- (a) The sheet, the widths, the examples --------------------------------
 
-# Pattern, k, text, positions, looks by method.
+# Pattern, k, text, positions, looks by method.  The sheet is older than method 6,
+# whose looks were worked out by hand.
 SHEET = [
-    (b"ab", 0, b"aab", [1], {1: 3, 5: 3, 2: 4, 3: 4, 4: 4}),
-    (b"abc", 0, b"abcxxxabc", [0, 6], {1: 9, 2: 9, 3: 13}),
+    (b"ab", 0, b"aab", [1], {1: 3, 5: 3, 2: 4, 3: 4, 4: 4, 6: 8}),
+    (b"abc", 0, b"abcxxxabc", [0, 6], {1: 9, 2: 9, 3: 13, 6: 15}),
     (b"aabb", 1, b"axbb", [0], {4: 4}),
     (b"aabb", 1, b"xxbb", [], {4: 4}),
-    (b"a", 0, b"aba", [0, 2], {3: 3}),
-    (b"ab", 0, b"a", [], {1: 0, 2: 0, 3: 0, 4: 0, 5: 0}),
-    (b"ab", 0, b"xb", [], {5: 2}),
-    (b"accgta", 0, b"ccgatacgcattgac", [0, 1, 3, 4, 5], {1: 15}),
+    (b"a", 0, b"aba", [0, 2], {3: 3, 6: 5}),
+    (b"ab", 0, b"a", [], {1: 0, 2: 0, 3: 0, 4: 0, 5: 0, 6: 0}),
+    (b"ab", 0, b"xb", [], {5: 2, 6: 2}),
+    (b"accgta", 0, b"ccgatacgcattgac", [0, 1, 3, 4, 5], {1: 15, 6: 120}),
 ]
 
 
@@ -106,7 +107,7 @@ def check_sheet(tally):
             places = [77] * (len(text) + 2)
             refusal, found, seen = ref.whole_search(pattern, k, method, text, places)
             what = "%s method %d" % (row, method)
-            if k > 0 and method in (2, 3, 5):
+            if k > 0 and method in (2, 3, 5, 6):
                 tally.same(what, (refusal, found, seen), (4, 0, 0))
                 tally.same(what + " list", places, [77] * (len(text) + 2))
                 continue
@@ -170,10 +171,17 @@ def check_examples(tally):
         ref.program_output(b"2 0 abc\nabcxxxabc\n"),
         b"mix abc method 2 k 0\n0\n6\nfound 2 looks 9\n",
     )
+    tally.same(
+        "mixlist, method 6",
+        ref.program_output(b"6 0 abc\nabcxxxabc\n"),
+        b"mix abc method 6 k 0\n0\n6\nfound 2 looks 15\n",
+    )
     tally.same("1", ref.open_search(b"", 0, 1), (1, ref.BLANK))
     tally.same("2", ref.open_search(b"ab", 2, 1), (2, ref.BLANK))
-    tally.same("3", ref.open_search(b"ab", 0, 6), (3, ref.BLANK))
+    tally.same("3", ref.open_search(b"ab", 0, 7), (3, ref.BLANK))
     tally.same("4", ref.open_search(b"ab", 1, 2), (4, ref.BLANK))
+    tally.same("4, method 6", ref.open_search(b"ab", 1, 6), (4, ref.BLANK))
+    tally.same("64 letters, method 6", ref.open_search(letters(64), 0, 6)[0], 0)
     tally.same("5", ref.open_search(letters(32), 0, 2), (5, ref.BLANK))
     places = [7] * 65537
     tally.same(
@@ -203,11 +211,14 @@ def check_examples(tally):
             tally.same("total", after.n, 4294967290 + size)
     tally.same("9", ref.load(b"\x04"), (9, ref.BLANK))
     for what, wrong, number in (
-        ("pattern of 65", ref.Search(b"a" * 65, 65, 6, 9, b""), 1),
+        ("pattern of 65", ref.Search(b"a" * 65, 65, 7, 9, b""), 1),
         ("no pattern", ref.BLANK, 1),
-        ("k of m", ref.Search(b"ab", 2, 6, 9, b""), 2),
+        ("k of m", ref.Search(b"ab", 2, 7, 9, b""), 2),
+        ("k of m, method 6", ref.Search(b"ab", 2, 6, 9, b""), 2),
         ("method 0", ref.Search(b"ab", 1, 0, 9, b""), 3),
+        ("method 7", ref.Search(b"ab", 1, 7, 9, b""), 3),
         ("k with pairs", ref.Search(b"ab", 1, 3, 9, b""), 4),
+        ("k with method 6", ref.Search(b"ab", 1, 6, 9, b""), 4),
         ("65 bits", ref.Search(letters(32), 0, 2, 9, b""), 5),
         ("tail too short", ref.Search(b"ab", 1, 4, 9, b""), 9),
         ("tail too long", ref.Search(b"ab", 1, 4, 9, b"ab"), 9),
@@ -226,6 +237,37 @@ def check_examples(tally):
     tally.same("11", ref.program_output(b"abc"), b"refused 11\n")
 
 
+def windows_of_method_6(pattern, text):
+    """Each window that method 6 comes to, with the offset in it of the last reading
+    that the pattern lacks, which is None if there is none."""
+    m, s = len(pattern), 0
+    while s + m <= len(text):
+        lacking = max((j for j in range(m) if text[s + j] not in pattern), default=None)
+        yield s, lacking
+        s += 1 if lacking is None else lacking + 1
+
+
+def looks_of_method_6(pattern, text):
+    m = len(pattern)
+    return sum(2 * m if at is None else m - at for _, at in windows_of_method_6(pattern, text))
+
+
+def check_method_6(tally, rng):
+    """Against the other description of it, on texts of which few readings, about
+    half and all are the pattern's."""
+    for number in range(1500):
+        m = rng.choice((1, 2, 3, 4, 5, 8, 16, 63, 64))
+        pattern = make_pattern(rng, m, rng.choice((1, 2, 3, 64)))
+        others = (pattern, pattern + bytes(range(m)), bytes(range(256)))[number % 3]
+        text = bytes(rng.choice(others) for _ in range(rng.randrange(3 * m + 9)))
+        text += shuffled(rng, pattern)[: rng.randrange(m + 1)]
+        positions, looks = ref.steps_exact_backward(pattern, 0, text)
+        verified = [s for s, at in windows_of_method_6(pattern, text) if at is None]
+        matching = [s for s in verified if sorted(text[s : s + m]) == sorted(pattern)]
+        what = "method 6 of %r, text %r" % (pattern, text)
+        tally.same(what, (positions, looks), (matching, looks_of_method_6(pattern, text)))
+
+
 def check_images(tally, rng):
     """Whatever is accepted after a change of an image is saved as it was."""
     base = ref.Search(b"abca", 1, 4, 9, b"bca")
@@ -236,7 +278,7 @@ def check_images(tally, rng):
         tally.same("one byte more", ref.load(image + b"\0"), (9, ref.BLANK))
         for _ in range(60):
             changed = bytearray(image)
-            changed[rng.randrange(len(changed))] = rng.choice((0, 1, 2, 3, 4, 5, 64, 255))
+            changed[rng.randrange(len(changed))] = rng.choice((0, 1, 2, 3, 4, 5, 6, 7, 64, 255))
             refusal, search = ref.load(bytes(changed))
             if refusal:
                 tally.same("refused load", search, ref.BLANK)
@@ -304,14 +346,14 @@ def check_marked_sheets(tally, rng):
     for lines, spare in itertools.product((0, 1, 49, 50, 51, 99, 100, 101, 150, 151), (-1, 0, 1)):
         marked_alike(tally, b"a", 0, rng.choice(METHODS), b"a" * lines, spare, lines)
     for n in (11, 101, 1001, 10001, 65536):
-        marked_alike(tally, b"ab", 0, 1 + n % 5, b"x" * (n - 3) + b"aba", 0, n)
+        marked_alike(tally, b"ab", 0, 1 + n % 6, b"x" * (n - 3) + b"aba", 0, n)
     for _ in range(400):
         m = rng.choice((1, 2, 3, 5, 63, 64, 65))
         pattern = make_pattern(rng, m, rng.randrange(1, 40))
         k = rng.choice((0, rng.randrange(m + 1)))
         text = make_text(rng, pattern, k, rng.randrange(2 * m + 9))
         places = max(len(text) + rng.choice((-1, 0, 3)), 0)
-        marked_alike(tally, pattern, k, rng.randrange(1, 7), text, rng.choice((-1, 0, 5)), places)
+        marked_alike(tally, pattern, k, rng.randrange(1, 8), text, rng.choice((-1, 0, 5)), places)
 
 
 # --- (b) Made inputs for the program ----------------------------------------
@@ -408,7 +450,7 @@ def byte_inputs(rng):
         for method in METHODS:
             yield line(method, 0, bytes([c])) + near + b"\n"
         yield line(4, 1, bytes([c, c, (c + 1) % 256])) + near * 3
-        yield line(1 + c % 5, 0, bytes([c, c ^ 128])) + near * 3
+        yield line(1 + c % 6, 0, bytes([c, c ^ 128])) + near * 3
     for method in METHODS:
         yield line(method, 0, b"\xff\0") + bytes(range(256)) * 2
 
@@ -506,6 +548,25 @@ def heap_inputs(rng):
             yield line(5, 0, pattern) + text + b"\n"
 
 
+def known_letter_inputs(rng):
+    """Method 6: a reading that the pattern lacks at each place of a window, windows
+    that are verified in vain, patterns of up to 64 letters, and the digits that
+    are no method's."""
+    for m in (1, 2, 3, 5, 63, 64):
+        pattern = make_pattern(rng, m, 3)
+        other = bytes([next(c for c in range(97, 123) if c not in pattern)])
+        for at in range(m):
+            before, after = pattern[:at], pattern[at + 1 :]
+            yield line(6, 0, pattern) + before + other + after + pattern + other * m
+        for unit in (pattern, pattern[:1], pattern[-1:], pattern + pattern[:1], other):
+            yield line(6, 0, pattern) + (unit * 200)[: 2 * m + 9]
+    for q in (31, 32, 33, 63, 64):
+        for method in METHODS:
+            yield line(method, 0, letters(q)) + letters(q) + letters(3) + shuffled(rng, letters(q))
+    for method, k in itertools.product((0, 6, 7, 8, 9), (0, 1, 2, 3, 4, 99)):
+        yield line(method, k, b"abc") + b"abcbax\n"
+
+
 def size_inputs(rng):
     """Both sides of refusal 6, and refusal 6 before 11 and 1 to 5."""
     for size in (16383, 16384, 16385, 16386, 20000, 32768, 65536, 65537, 70000):
@@ -515,6 +576,7 @@ def size_inputs(rng):
             (b"3 0 aab\n", b"abaxx"),
             (b"4 1 abcd\n", b"abxdcbad\n"),
             (b"5 0 abc\n", b"cabx"),
+            (b"6 0 abc\n", b"cabxbb"),
             (b"1 0 ", b"a"),
             (b"1 2 ab\n", b"a"),
             (b"7 0 ab\n", b"a"),
@@ -532,7 +594,7 @@ def size_inputs(rng):
 
 def long_inputs(rng):
     for method, k, m, most in (
-        (1, 5, 64, 40), (2, 0, 20, 4), (3, 0, 21, 4), (4, 3, 24, 4), (5, 0, 63, 12),
+        (1, 5, 64, 40), (2, 0, 20, 4), (3, 0, 21, 4), (4, 3, 24, 4), (5, 0, 63, 12), (6, 0, 64, 60),
     ):
         pattern = make_pattern(rng, m, most)
         yield line(method, k, pattern) + make_text(rng, pattern, k, 3000) + b"\n"
@@ -550,6 +612,7 @@ FAMILIES = (
     edge_inputs,
     width_inputs,
     heap_inputs,
+    known_letter_inputs,
     size_inputs,
     long_inputs,
 )
@@ -574,6 +637,8 @@ class Coverage:
         self.sides = {"shorter": 0, "equal": 0, "longer": 0}
         self.verified = 0
         self.failed_verification = 0
+        self.verified_6 = 0
+        self.failed_6 = 0
 
     def add(self, data, output):
         word = output.split(b"\n", 1)[0].decode("latin-1")
@@ -606,6 +671,10 @@ class Coverage:
             looked = (ref.steps_heap_values(pattern, k, text)[1] - n) // m
             self.verified += looked
             self.failed_verification += looked - len(found)
+        if method == 6:
+            verified = sum(at is None for _, at in windows_of_method_6(pattern, text))
+            self.verified_6 += verified
+            self.failed_6 += verified - len(found)
 
     def report(self):
         for key in sorted(self.answers, key=lambda word: (len(word), word)):
@@ -630,6 +699,10 @@ class Coverage:
             "  windows verified in method 5: %d, of them no match: %d"
             % (self.verified, self.failed_verification)
         )
+        print(
+            "  windows verified in method 6: %d, of them no match: %d"
+            % (self.verified_6, self.failed_6)
+        )
 
     def gaps(self):
         """What should have been reached and was not."""
@@ -648,7 +721,7 @@ class Coverage:
             for bits in (64, 65):
                 if (method, bits) not in self.bits and (method, bits + 1) not in self.bits:
                     missing.append("method %d, %d bits" % (method, bits))
-        if min(self.sides.values()) == 0 or self.failed_verification == 0:
+        if min(self.sides.values()) == 0 or self.failed_verification == 0 or self.failed_6 == 0:
             missing.append("a length of text, or a failed verification")
         return missing
 
@@ -743,6 +816,7 @@ def check_reads(tally, path):
             (b"2 0 abc\n", b"abcxxx"),
             (b"4 1 abcd\n", b"abxdcbad\n"),
             (b"5 0 ab\n", b"ba"),
+            (b"6 0 aab\n", b"abaax"),
             (b"1 0 ", b"a"),
         ):
             data = (head + unit * size)[:size]
@@ -905,9 +979,28 @@ def all_cuts(tally, rng):
                     )
 
 
+def handed_over(tally, rng):
+    """Short texts begun by one method and ended by another, to and from method 6,
+    cut at every place."""
+    for pattern in (b"a", b"ab", b"aab", b"abac"):
+        text = make_text(rng, pattern, 0, 14)
+        for other, cut in itertools.product(METHODS, range(len(text) + 1)):
+            for first, second in ((6, other), (other, 6)):
+                search = ref.open_search(pattern, 0, first)[1]
+                ledger = Ledger(pattern, 0, first)
+                search = fed(tally, search, ledger, text[:cut], rng)
+                refusal, search = ref.set_method(search, second)
+                ledger.method = second
+                search = fed(tally, search, ledger, text[cut:], rng)
+                what = "from method %d to %d at %d" % (first, second, cut)
+                listed = ref.listed_positions(pattern, 0, text)
+                tally.same(what, (refusal, ledger.reports), (0, listed))
+
+
 def check_series(tally):
     rng = random.Random("%d series" % SEED)
     tally.guarded("all cuts", all_cuts, rng)
+    tally.guarded("handed over", handed_over, rng)
     for number in range(480):
         tally.guarded("series %d" % number, one_series, rng, number)
 
@@ -916,6 +1009,7 @@ def check_reference(tally):
     tally.guarded("sheet", check_sheet)
     tally.guarded("widths", check_widths)
     tally.guarded("examples", check_examples)
+    tally.guarded("method 6", check_method_6, random.Random("%d method 6" % SEED))
     tally.guarded("images", check_images, random.Random("%d images" % SEED))
     tally.guarded("marked sheets", check_marked_sheets, random.Random("%d marked" % SEED))
 
@@ -926,7 +1020,7 @@ def main(arguments):
         return 2
     started = time.monotonic()
 
-    sheet = Tally("(a) sheet, widths, examples, marked sheets")
+    sheet = Tally("(a) sheet, widths, examples, method 6, marked sheets")
     check_reference(sheet)
     after_sheet = time.monotonic()
     sheet.report(after_sheet - started)

@@ -28,8 +28,8 @@ from vectors_coverage import VectorCoverage
 STORED = os.path.join(
     os.path.dirname(os.path.dirname(os.path.abspath(__file__))), "crates", "vectors", "stdin"
 )
-# The room that the program has is 640 * 1024.
-MOST_BYTES = 608 * 1024
+# The room that the program has is 768 * 1024.
+MOST_BYTES = 736 * 1024
 FEWEST_CASES = 7000
 
 

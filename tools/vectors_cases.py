@@ -10,8 +10,12 @@ import vectors_stream as vs
 from compare import METHODS, ORDERS, SHEET, letters, line, make_text, shuffled
 from vectors_stream import repeated, scattered
 
-# The edges of 1 to 5 and of a byte, and two others.
-NO_METHODS = (0, 6, 7, 200, 255)
+# The edges of 1 to 6 and of a byte, and two others.
+NO_METHODS = (0, 7, 8, 200, 255)
+
+# Those before T-04.  Families that are older draw from them, and so have the cases
+# that they had; method 6 joins where nothing is drawn, and in families of its own.
+FORMER_METHODS = METHODS[:5]
 
 
 class Random:
@@ -69,8 +73,12 @@ def with_errors(rng, pattern, errors):
     return shuffled(rng, kept + strangers(rng, pattern, errors))
 
 
-def allowed_methods(pattern, k):
-    return [method for method in METHODS if not ref.refuse_terms(pattern, k, method)]
+def allowed_methods(pattern, k, methods=METHODS):
+    return [method for method in methods if not ref.refuse_terms(pattern, k, method)]
+
+
+def drawn_method(rng, pattern, k):
+    return rng.choice(allowed_methods(pattern, k, FORMER_METHODS))
 
 
 # --- Sheet, widths, exactness ---------------------------------------------------
@@ -175,7 +183,7 @@ def byte_values(stream, rng):
         stream.whole(bytes([c, c ^ 128]), 0, 1 + (c // 5) % 5, near[2:])
     for first in range(0, 256, 64):
         pattern = bytes(range(first, first + 64))
-        for method in (1, 5, 2):
+        for method in (1, 5, 6, 2):
             stream.whole(pattern, 0, method, repeated(200, pattern))
         stream.whole(pattern, 60, 1, scattered(150, first, bytes(range(255))))
 
@@ -199,7 +207,7 @@ def every_length(stream, rng):
     """Texts shorter than the pattern, of its length, one longer, and longer."""
     for m in (1, 2, 3, 63, 64):
         for n in sorted({0, 1, m - 1, m, m + 1, 2 * m + 1}):
-            for method in METHODS:
+            for method in FORMER_METHODS:
                 stream.whole(repeated(m, b"abc"), 0, method, repeated(n, b"abc"))
                 k = rng.randrange(m)
                 stream.whole(repeated(m, b"aab"), k, (1, 4)[method % 2], repeated(n, b"abcab"))
@@ -211,7 +219,7 @@ def made_searches(stream, rng):
         pattern = pattern_of(rng, m, rng.randrange(1, 5))
         k = rng.choice((0, rng.randrange(m), rng.randrange(min(m, 4))))
         text = make_text(rng, pattern, k, rng.randrange(3 * m + 8))
-        method = rng.choice(allowed_methods(pattern, k))
+        method = drawn_method(rng, pattern, k)
         stream.whole(pattern, k, method, text, len(text) + rng.choice((0, 0, 1, 5)))
 
 
@@ -221,7 +229,7 @@ def long_texts(stream, rng):
         (8, 0, b"ab"), (12, 3, b"abc"), (31, 6, b"abc"), (63, 12, b"ab"), (64, 9, b"abcde"),
     ):
         pattern = repeated(m, own)
-        for method in METHODS:
+        for method in FORMER_METHODS:
             n = rng.randrange(1000, 5000)
             stream.whole(pattern, 0, method, repeated(n, pattern.value + own))
             if method in allowed_methods(pattern.value, k):
@@ -233,13 +241,13 @@ def long_texts(stream, rng):
 
 def long_chunks(stream, rng):
     """Long and short chunks by turns, the method changed between them."""
-    for m, method in itertools.product((2, 17, 64), METHODS):
+    for m, method in itertools.product((2, 17, 64), FORMER_METHODS):
         own = some_letters(rng, 3)
         pattern = repeated(m, own[:2])
         stream.open(pattern, 0, method)
         stream.feed(scattered(rng.randrange(200, 1200), rng.randrange(2**32), own[:2]))
         stream.feed(repeated(rng.randrange(3), own))
-        stream.set_method(rng.choice(METHODS))
+        stream.set_method(rng.choice(FORMER_METHODS))
         stream.feed(repeated(rng.randrange(200, 1200), pattern.value + own))
         stream.save(512)
 
@@ -374,7 +382,7 @@ def edges_of_terms(stream, rng):
     """Numbers 1 to 5 of open, each at both sides and several at once."""
     for m in (0, 1, 2, 3, 63, 64, 65, 66, 256, 257, 300):
         for k in sorted({0, 1, max(m - 1, 0) % 256, m % 256, (m + 1) % 256, 255}):
-            for method in (0, 1, 2, 3, 4, 5, 6, 200, 255):
+            for method in (0, 1, 2, 3, 4, 5, 6, 7, 200, 255):
                 stream.open(repeated(m, b"ab"), k, method)
     for q in (31, 32, 65):
         for k in (0, 1, q, 255):
@@ -392,13 +400,14 @@ def edges_of_whole_search(stream, rng):
     for m, k in (
         (0, 0), (0, 255), (1, 0), (2, 1), (2, 2), (64, 0), (64, 63), (64, 64), (65, 0), (65, 65),
     ):
-        for method in METHODS:
+        for method in FORMER_METHODS:
             n, places = rng.choice(LIMITS)
             stream.whole(repeated(m, b"ab"), k, method, repeated(n, b"ab"), places)
     for pattern, k, method in (
-        (b"", 0, 1), (b"", 0, 6), (repeated(65, b"a"), 0, 1), (letters(65), 0, 2),
-        (b"ab", 2, 1), (b"ab", 2, 2), (b"ab", 0, 0), (b"ab", 1, 6), (b"ab", 1, 2), (b"ab", 1, 3),
-        (b"ab", 1, 5), (letters(32), 0, 2), (letters(32), 1, 2), (letters(32), 32, 4),
+        (b"", 0, 1), (b"", 0, 7), (repeated(65, b"a"), 0, 1), (letters(65), 0, 2),
+        (b"ab", 2, 1), (b"ab", 2, 2), (b"ab", 0, 0), (b"ab", 1, 7), (b"ab", 1, 2), (b"ab", 1, 3),
+        (b"ab", 1, 5), (b"ab", 1, 6), (b"ab", 2, 6), (letters(32), 0, 2), (letters(32), 1, 2),
+        (letters(32), 32, 4),
     ):
         for n, places in LIMITS:
             stream.whole(pattern, k, method, repeated(n, b"ab"), places)
@@ -413,21 +422,24 @@ def edges_of_whole_search(stream, rng):
 
 def edges_of_feed(stream, rng):
     """Numbers 6, 7 and 8, alone and together, on a search that is sound."""
-    for method in METHODS:
-        stream.open(b"ab", 0, method)
-        for n, places in LIMITS + ((65536, 65536), (3, 4), (1, 1)):
-            stream.feed(repeated(n, b"abx"), places)
+    for method in FORMER_METHODS:
+        feeds_at_the_limits(stream, method)
     for n, places in ((65536, 65535), (65537, 65536), (65537, 65537)):
         stream.feed(repeated(n, b"abx"), places)
     for m, size in itertools.product((1, 2, 3, 64), (0, 1, 2, 5, 64)):
-        feeds_at_the_largest_total(stream, rng, m, size)
-    feeds_at_the_largest_total(stream, rng, 3, 65535)
+        feeds_at_the_largest_total(stream, rng.choice(FORMER_METHODS), m, size)
+    feeds_at_the_largest_total(stream, rng.choice(FORMER_METHODS), 3, 65535)
 
 
-def feeds_at_the_largest_total(stream, rng, m, size):
+def feeds_at_the_limits(stream, method):
+    stream.open(b"ab", 0, method)
+    for n, places in LIMITS + ((65536, 65536), (3, 4), (1, 1)):
+        stream.feed(repeated(n, b"abx"), places)
+
+
+def feeds_at_the_largest_total(stream, method, m, size):
     """A search that has room for that many bytes more."""
     pattern = b"a" * (m - 1) + b"b"
-    method = rng.choice(METHODS)
     search = ref.Search(pattern, 0, method, ref.LARGEST_TOTAL - size, pattern[1:])
     stream.load(ref.image_of(search))
     too_many = size + 1
@@ -442,7 +454,7 @@ def edges_of_set_method(stream, rng):
     for pattern, k in ((b"a", 0), (b"ab", 0), (b"ab", 1), (letters(31), 0), (letters(32), 0),
                        (letters(32), 1), (letters(15), 3), (letters(16), 3), (letters(64), 63)):
         stream.open(pattern, k, 1)
-        for method in METHODS + NO_METHODS:
+        for method in FORMER_METHODS + NO_METHODS:
             stream.set_method(method)
         stream.feed(repeated(9, pattern))
 
@@ -450,12 +462,16 @@ def edges_of_set_method(stream, rng):
 def edges_of_save(stream, rng):
     """Number 10 at its edge."""
     for m in (1, 2, 3, 40, 64):
-        stream.open(repeated(m, b"abc"), 0, rng.choice(METHODS))
-        for size in (0, 1, m):
-            stream.feed(repeated(size, b"cab"))
-            needed = len(ref.image_of(ref.contents(stream.search)))
-            for room in (0, 1, 13, needed - 1, needed, needed + 1, 512):
-                stream.save(room)
+        saves_at_the_limits(stream, rng.choice(FORMER_METHODS), m)
+
+
+def saves_at_the_limits(stream, method, m):
+    stream.open(repeated(m, b"abc"), 0, method)
+    for size in (0, 1, m):
+        stream.feed(repeated(size, b"cab"))
+        needed = len(ref.image_of(ref.contents(stream.search)))
+        for room in (0, 1, 13, needed - 1, needed, needed + 1, 512):
+            stream.save(room)
 
 
 # --- Searches filled in by hand -------------------------------------------------------
@@ -482,7 +498,7 @@ def feed_set_and_save(stream, rng):
     chunk, places = rng.choice(((b"", 0), (b"ab", 2), (b"ab", 1), (repeated(65537, b"ab"), 3)))
     calls = [
         lambda: stream.feed(chunk, places),
-        lambda: stream.set_method(rng.choice(METHODS + NO_METHODS)),
+        lambda: stream.set_method(rng.choice(FORMER_METHODS + NO_METHODS)),
         lambda: stream.save(rng.choice((512, 512, 20, 0))),
     ]
     rng.shuffle(calls)
@@ -510,8 +526,8 @@ def searches_with_a_fault(stream, rng):
 def searches_with_faults(stream, rng):
     """Several faults of a search at once, and calls that a sound one would
     refuse too (its total leaves no room): the first number is given."""
-    narrow = itertools.product((b"abcab",), (0, 1, 5), (1, 2, 4, 6))
-    wide = itertools.product((letters(32),), (0, 1), (1, 2, 4, 6))
+    narrow = itertools.product((b"abcab",), (0, 1, 5), (1, 2, 4, 7))
+    wide = itertools.product((letters(32),), (0, 1), (1, 2, 4, 7))
     lengths = ((None, None), (None, 63), (0, None), (65, 63))
     for pattern, k, method in itertools.chain(narrow, wide, [(letters(32), 32, 4)]):
         for pattern_len, tail_len in lengths:
@@ -531,10 +547,10 @@ def sound_searches(stream, rng):
             pattern = pattern_of(rng, m, rng.randrange(1, 5))
             k = rng.choice((0, rng.randrange(m)))
             tail = make_text(rng, pattern, k, min(n, m - 1))
-            stream.hand(handed(rng, pattern, k, rng.choice(allowed_methods(pattern, k)), n, tail))
+            stream.hand(handed(rng, pattern, k, drawn_method(rng, pattern, k), n, tail))
             needed = 19 + m + len(tail)
             stream.save(needed + rng.choice((-1, 0, 1)))
-            stream.set_method(rng.choice(METHODS + NO_METHODS))
+            stream.set_method(rng.choice(FORMER_METHODS + NO_METHODS))
             stream.save(512)
             stream.feed(with_errors(rng, pattern, k)[:3], rng.choice((1, 3, 3)))
             stream.save(512)
@@ -619,7 +635,7 @@ def refused_contents(stream, rng):
     """Numbers 1 to 5 and the tail's 9 in an image of the right form."""
     pattern, tail = b"ab" * 100, b"ba" * 100
     lengths = 0, 1, 2, 64, 65, 66, 200
-    methods = 0, 1, 2, 4, 5, 6, 200
+    methods = 0, 1, 2, 4, 5, 7, 200
     for m, k, method in itertools.product(lengths, (0, 1, 2, 255), methods):
         n = rng.choice((0, 1, 2, 100, 65536, ref.LARGEST_TOTAL))
         kept = max(0, min(n, m - 1) + rng.choice((0, 0, 0, 1, -1)))
@@ -642,13 +658,13 @@ class Series:
     """One search fed with parts of a text, saved, loaded and changed.  Where
     all of the text so far is known, a feed's list is tested against it."""
 
-    def __init__(self, stream, rng):
-        self.stream, self.rng = stream, rng
+    def __init__(self, stream, rng, methods):
+        self.stream, self.rng, self.methods = stream, rng, methods
         m = rng.choice((1, 2, 2, 3, 3, 4, 5, 6, 8, 12, 16, 31, 63, 64))
         q = rng.choice((1, 2, 3, 4, 6, 12 if m > 30 else 2))
         self.pattern = pattern_of(rng, m, q)
         self.k = rng.choice((0, 0, rng.randrange(m)))
-        self.allowed = allowed_methods(self.pattern, self.k)
+        self.allowed = allowed_methods(self.pattern, self.k, methods)
         self.plan = make_text(rng, self.pattern, self.k, 6 * m + 60)
         self.kept = []
         self.open()
@@ -678,7 +694,8 @@ class Series:
         self.stream.feed(chunk, self.rng.choice((0, len(chunk) - 1)))
 
     def set_method(self):
-        self.stream.set_method(self.rng.choice(METHODS + tuple(self.allowed) * 2 + NO_METHODS))
+        some = self.methods + tuple(self.allowed) * 2 + NO_METHODS
+        self.stream.set_method(self.rng.choice(some))
 
     def save(self):
         search = ref.contents(self.stream.search)
@@ -709,7 +726,7 @@ class Series:
 
     def open_refused(self):
         m, rng = len(self.pattern), self.rng
-        k, method = rng.choice(((m, 1), (255, 6), (0, 0), (0, 6), (m, 4)))
+        k, method = rng.choice(((m, 1), (255, 7), (0, 0), (0, 7), (m, 4)))
         self.stream.open(self.pattern, k, method)
         self.go_on_from_blank()
 
@@ -733,7 +750,7 @@ class Series:
 
 def series_of_calls(stream, rng):
     for _ in range(95):
-        Series(stream, rng).run(rng.randrange(8, 36))
+        Series(stream, rng, FORMER_METHODS).run(rng.randrange(8, 36))
 
 
 # --- The program's input ------------------------------------------------------------------
@@ -765,8 +782,8 @@ def patterns_and_records(stream, rng):
     ):
         for end in (b"", b"\n", b"\n\n", b"\r\n", b"\n \n"):
             record = pattern + b"a" + pattern + end
-            stream.report(line(rng.choice(METHODS), 0, pattern) + record)
-    for m, method in itertools.product((1, 10, 11, 63, 64, 65), (1, 2, 4, 6)):
+            stream.report(line(rng.choice(FORMER_METHODS), 0, pattern) + record)
+    for m, method in itertools.product((1, 10, 11, 63, 64, 65), (1, 2, 4, 6, 7)):
         for k in sorted({0, m - 1, m}):
             first = line(method, k, b"a" * m)
             stream.report(repeated(len(first) + m + 1, first + b"a" * m))
@@ -774,7 +791,7 @@ def patterns_and_records(stream, rng):
         (31, 0, 2), (32, 0, 2), (31, 0, 3), (32, 0, 3), (15, 3, 4), (16, 3, 4), (32, 1, 2),
     ):
         stream.report(line(method, k, letters(q)) + letters(q) + b"\n")
-    for (pattern, k, text, _, _), method in itertools.product(SHEET, METHODS):
+    for (pattern, k, text, _, _), method in itertools.product(SHEET, FORMER_METHODS):
         stream.report(line(method, k, pattern) + text + rng.choice((b"", b"\n")))
 
 
@@ -783,15 +800,15 @@ def input_lengths(stream, rng):
     for size in (16383, 16384, 16385):
         for unit in (
             b"1 0 a\na", b"2 0 ab\nabbax", b"3 0 aab\nabaxx", b"4 1 abcd\nabxdcbad\n",
-            b"5 0 abc\ncabx", b"1 0 \n", b"1 2 ab\nab", b"7 0 ab\nab", b"2 1 ab\nab", b"abc",
-            b"\n", b"1 00 a\n", b"1 0 a\n",
+            b"5 0 abc\ncabx", b"6 0 abc\ncabxbb", b"1 0 \n", b"1 2 ab\nab", b"7 0 ab\nab",
+            b"2 1 ab\nab", b"abc", b"\n", b"1 00 a\n", b"1 0 a\n",
         ):
             stream.report(repeated(size, unit))
         stream.report(scattered(size, rng.randrange(2**32), b"1 0 a\n"))
     for _ in range(30):
         pattern = bytes(rng.choice(b"ab c") for _ in range(rng.randrange(1, 9)))
         k = rng.randrange(len(pattern)) if rng.randrange(2) else 0
-        first = line(rng.choice(allowed_methods(pattern, k)), k, pattern)
+        first = line(drawn_method(rng, pattern, k), k, pattern)
         record = bytes(rng.choice(b"ab c\nx") for _ in range(rng.randrange(120)))
         stream.report(repeated(rng.randrange(200, 3000), first + record))
 
@@ -1029,10 +1046,10 @@ def numbers_of_lines(stream, rng):
     line, and by a line with the byte before it."""
     for lines in (1, 2, 49, 50, 51, 52, 99, 100, 101, 149, 150, 151):
         for spare in (-77, -76, -3, -2, -1, 0, 1, 2, 76, 77):
-            marked(stream, b"a", 0, rng.choice(METHODS), repeated(lines, b"a"), spare)
+            marked(stream, b"a", 0, rng.choice(FORMER_METHODS), repeated(lines, b"a"), spare)
         text = repeated(3 * lines, b"aba")
         for spare in (-1, 0, 40):
-            marked(stream, b"ba", 0, rng.choice(METHODS), text, spare)
+            marked(stream, b"ba", 0, rng.choice(FORMER_METHODS), text, spare)
 
 
 def sheets_of_nothing(stream, rng):
@@ -1063,7 +1080,8 @@ def readings_on_paper(stream, rng):
     # Readings that would pass for the end of a line or a page, for padding, or for
     # a position, if they showed as themselves or stood in the first ten bytes.
     for pattern in (b"\n\n", b"\x0c", b"\n\x0c\n", b"  ", b" 7", b"12", b"\n        77 "):
-        marked(stream, pattern, 0, rng.choice(METHODS), b"a" + pattern * 2 + pattern[::-1])
+        method = rng.choice(FORMER_METHODS)
+        marked(stream, pattern, 0, method, b"a" + pattern * 2 + pattern[::-1])
     for first in range(0, 256, 64):
         own = bytes(range(first, first + 64))
         for method, pattern in ((1, own), (5, own), (1, own[:63]), (5, own[1:])):
@@ -1080,7 +1098,7 @@ def windows_on_paper(stream, rng):
         own = some_letters(rng, 2)
         pattern = repeated(m, own).value
         for n in (m - 1, m, m + 1, 2 * m + 1) if m in (1, 2, 63, 64) else (m + 1,):
-            marked(stream, pattern, 0, rng.choice(METHODS), repeated(n, own))
+            marked(stream, pattern, 0, rng.choice(FORMER_METHODS), repeated(n, own))
             marked(stream, pattern, m - 1, rng.choice((1, 4)), scattered(n, m, own + b"x~"))
 
 
@@ -1098,7 +1116,7 @@ DIGITS = (
 def digits_of_positions(stream, rng):
     """Positions of one to five digits, at both sides of each power of ten."""
     for n, unit in DIGITS:
-        for method in METHODS:
+        for method in FORMER_METHODS:
             marked(stream, b"a", 0, method, repeated(n, unit))
     for n in (65535, 65536):
         marked(stream, b" a", 0, 1 + n % 5, repeated(n, b"a" + b" " * 254))
@@ -1125,9 +1143,9 @@ def one_sheet_by_every_method(stream, rng):
 # Terms that are refused with 1 to 5, some with several of them, and terms that
 # are taken.
 TERMS = (
-    (b"", 0, 1), (b"", 0, 6), (b"a" * 65, 0, 1), (letters(65), 0, 2), (letters(65), 1, 2),
-    (b"a" * 257, 255, 0), (b"a" * 300, 0, 1), (b"ab", 2, 1), (b"ab", 2, 2), (b"ab", 255, 6),
-    (b"ab", 0, 0), (b"ab", 1, 6), (b"ab", 0, 255), (b"ab", 1, 2), (b"ab", 1, 3), (b"ab", 1, 5),
+    (b"", 0, 1), (b"", 0, 7), (b"a" * 65, 0, 1), (letters(65), 0, 2), (letters(65), 1, 2),
+    (b"a" * 257, 255, 0), (b"a" * 300, 0, 1), (b"ab", 2, 1), (b"ab", 2, 2), (b"ab", 255, 7),
+    (b"ab", 0, 0), (b"ab", 1, 7), (b"ab", 0, 255), (b"ab", 1, 2), (b"ab", 1, 3), (b"ab", 1, 5),
     (letters(32), 0, 2), (letters(31), 0, 3), (letters(32), 0, 3), (letters(32), 1, 2),
     (letters(32), 32, 4), (letters(16), 3, 4), (b"ab", 0, 2), (b"ab", 1, 4), (letters(31), 0, 2),
 )
@@ -1142,7 +1160,7 @@ def edges_of_sheet(stream, rng):
             marked(stream, pattern, k, method, text, spare, places)
         stream.marked(vs.Marked(0, pattern), k, method, text, 0)
         stream.marked(vs.Marked(0, pattern), k, method, repeated(65537, b"ab"), rng.choice((0, 65537)))
-    for method, k in itertools.product(METHODS + NO_METHODS, (0, 1, 2, 255)):
+    for method, k in itertools.product(FORMER_METHODS + NO_METHODS, (0, 1, 2, 255)):
         marked(stream, b"ab", k, method, b"bab", rng.choice((-1, 0)))
 
 
@@ -1154,7 +1172,7 @@ def limits_of_sheet(stream, rng):
     for n, places in ((65536, 65536), (65536, 65535), (65536, 65537), (65537, 65537)):
         for spare in (-65537, -77, -1, 0):
             text = repeated(n, b"ab" + b"x" * 126)
-            marked(stream, b"ab", 0, rng.choice(METHODS), text, spare, places)
+            marked(stream, b"ab", 0, rng.choice(FORMER_METHODS), text, spare, places)
     for n, room in ((862, 65537), (863, 65537), (65536, 65537), (65537, 65537), (65536, 0)):
         stream.marked(vs.Marked(room, b"a"), 0, 1 + n % 5, repeated(n, b"a"), n)
 
@@ -1165,7 +1183,7 @@ def made_sheets(stream, rng):
         pattern = pattern_of(rng, m, rng.randrange(1, 5))
         k = rng.choice((0, rng.randrange(m), rng.randrange(min(m, 4))))
         text = make_text(rng, pattern, k, rng.randrange(3 * m + 8))
-        method = rng.choice(allowed_methods(pattern, k))
+        method = drawn_method(rng, pattern, k)
         places = len(text) + rng.choice((0, 0, 1, 5))
         marked(stream, pattern, k, method, text, rng.choice((-1, 0, 0, 1, 30)), places)
 
@@ -1196,13 +1214,13 @@ def long_sheets(stream, rng):
     for n, m, k, own, others in LONG:
         pattern, text = repeated(m, own).value, scattered(n, rng.randrange(2**32), own + others)
         methods = allowed_methods(pattern, k)
-        short, longer = rng.choice(methods), rng.choice(methods)
+        short, longer = drawn_method(rng, pattern, k), drawn_method(rng, pattern, k)
         for method, spare in [(short, -1)] + [(method, 0) for method in methods] + [(longer, 1)]:
             number = marked(stream, pattern, k, method, text, spare)
             assert number == (10 if spare < 0 else 0), "not the number that is meant"
     for n, m, k, own, others in TOO_LONG:
         pattern, text = repeated(m, own).value, scattered(n, rng.randrange(2**32), own + others)
-        method = rng.choice(allowed_methods(pattern, k))
+        method = drawn_method(rng, pattern, k)
         number = stream.marked(vs.Marked(65537, pattern), k, method, text, n)
         assert number == 10, "a sheet that fits"
 
@@ -1346,6 +1364,261 @@ def images_of_letters_thrice(stream, rng):
             stream.feed(mix[-1:] + mix[:1])
 
 
+# --- Method without counters (document 02, T-04) ---------------------------------------------
+
+
+def windows_of_one_reading(stream, rng):
+    """Each reading is a window, which is verified, or left behind at once."""
+    for c, other in ((b"a", b"b"), (b"-", b"."), (b"\0", b"\xff"), (b"\xff", b"\0")):
+        for text in (b"", c, other, c * 9, other * 9, (c + other) * 3, other + c * 2 + other * 2):
+            stream.whole(c, 0, 6, text)
+
+
+def lengths_of_known_letters(stream, rng):
+    """Texts at both sides of m, of readings that the pattern has, of others, and
+    of both."""
+    for m in (1, 2, 63, 64):
+        for n in (m - 1, m, m + 1, 2 * m + 1):
+            for unit in (b"ab", b"x", b"aabxba"):
+                stream.whole(repeated(m, b"ab"), 0, 6, repeated(n, unit))
+
+
+def every_short_text(stream, rng):
+    """All that three windows can be, and all that three can be that are verified."""
+    for text in itertools.product(b"abx", repeat=4):
+        stream.whole(b"ab", 0, 6, bytes(text))
+    for text in itertools.product(b"ab", repeat=5):
+        stream.whole(b"aab", 0, 6, bytes(text))
+
+
+def stops_at_every_offset(stream, rng):
+    """A reading that the pattern lacks at each place of a window: alone, with
+    others to its left, which aren't looked at, and before windows that are
+    verified.  Then it is fed, and goes through the windows of a long pattern."""
+    for m in (2, 3, 5):
+        pattern = repeated(m, b"aab").value
+        for at in range(m):
+            right = b"x" + pattern[at + 1 :]
+            stream.whole(pattern, 0, 6, pattern[:at] + right)
+            stream.whole(pattern, 0, 6, b"y" * at + right + pattern + b"b")
+    for m, before in ((63, [repeated(62, b"ab")]), (64, [b"b"] * 63)):
+        stream.open(repeated(m, b"ab"), 0, 6)
+        for piece in before + [b"x"] + [b"a", b"b"] * 32:
+            stream.feed(piece)
+
+
+def verified_windows(stream, rng):
+    """Texts of the pattern's letters alone: windows that all match, that all fail,
+    that do so by turns, one that matches after many that fail and before others,
+    and a last one of either kind."""
+    for m in (2, 3, 63, 64):
+        pattern = repeated(m, b"ab").value
+        few, many = pattern[1:] + b"b", b"a" * m
+        for text in (
+            repeated(2 * m + 9, pattern), repeated(2 * m + 9, b"a"), repeated(m + 9, b"ab"),
+            repeated(m, few), repeated(m + 1, few + b"a"), repeated(3 * m, many + few),
+            repeated(2 * m, many + pattern), repeated(2 * m + 1, many + pattern + b"b"),
+            scattered(2 * m + 30, m, b"ab"), scattered(2 * m + 30, m, b"aab"),
+        ):
+            stream.whole(repeated(m, b"ab"), 0, 6, text)
+    # The letters of the pattern, each of them there, and not as often.
+    for text in (b"aabcc", b"abbbc", b"aabbc", b"cbbaa", b"abcab", b"aabb", b"abcabcbbaac"):
+        stream.whole(b"abcab", 0, 6, text)
+
+
+def known_bytes(stream, rng):
+    """Every byte value as a letter that the pattern has, and as one that it lacks.
+    Of its letters' neighbours, and of what differs from one in the top bit, each
+    is the first reading that a window is asked about."""
+    for first in range(0, 256, 8):
+        own = bytes(range(first, first + 8))
+        text = shuffled(rng, own)
+        for c in ((first - 1) % 256, first ^ 128, (first + 8) % 256):
+            text += bytes([c]) + shuffled(rng, own)[:7]
+        stream.whole(own, 0, 6, text + own[::-1])
+    for pattern in (b"\0", b"a\xff", b"\x7f"):
+        stream.whole(pattern, 0, 6, bytes(range(256)))
+
+
+def most_letters(stream, rng):
+    """64 letters are too many for the fields of methods 2, 3 and 4; method 6 has no
+    fields."""
+    pattern, mix = letters(64), shuffled(rng, letters(64))
+    search = ref.Search(pattern, 0, 6, 99, mix[1:])
+    for method in (2, 3, 4, 6):
+        stream.whole(pattern, 0, method, mix + b"~" + mix[:2])
+        stream.open(pattern, 0, method)
+        stream.load(ref.image_of(search._replace(method=method), rng.choice(ORDERS)))
+        stream.report(line(method, 0, pattern) + mix + mix[:1])
+        marked(stream, pattern, 0, method, mix + mix[:1])
+        stream.hand(handed(rng, *search._replace(method=method)))
+        stream.save(160)
+        stream.feed(mix[:1])
+    for method in (4, 5, 3, 6, 2):
+        stream.set_method(method)
+        stream.feed(mix[method : method + 1])
+
+
+# Terms at both sides of 3 and of 4, and such that 2 comes first.
+SIDES_OF_6 = (
+    (b"ab", 0, 6), (b"ab", 1, 6), (b"ab", 2, 6), (b"ab", 0, 7), (b"ab", 1, 7), (b"ab", 2, 7),
+    (b"ab", 0, 8), (b"ab", 0, 9), (b"ab", 1, 9), (b"ab", 0, 0), (b"a", 0, 6), (b"a", 1, 6),
+    (b"ab" * 32, 0, 6), (b"ab" * 32, 63, 6), (b"ab" * 32, 64, 6),
+)
+
+
+def sides_of_method_6(stream, rng):
+    """Numbers 2, 3 and 4 by every call that knows them."""
+    for pattern, k, method in SIDES_OF_6:
+        m = len(pattern)
+        short = repeated(m, b"ab")
+        stream.whole(short, k, method, b"bab")
+        marked(stream, pattern, k, method, b"bab")
+        stream.report(line(method, k, pattern) + b"bab")
+        stream.open(short, k, method)
+        stream.open(short, min(k, m - 1), 1)
+        stream.set_method(method)
+        stream.feed(b"aab")
+        stream.load(ref.image_of(ref.Search(pattern, k, method, m, pattern[1:])))
+        stream.hand(handed(rng, pattern, k, method, m, pattern[1:]))
+        stream.save(19 + 2 * m - 1)
+        stream.feed(pattern[:1])
+        for new in (7, 1, 6):
+            stream.set_method(new)
+
+
+def limits_of_method_6(stream, rng):
+    """Numbers 6 to 10, and every change from it."""
+    feeds_at_the_limits(stream, 6)
+    for m, size in ((1, 1), (2, 0), (64, 2)):
+        feeds_at_the_largest_total(stream, 6, m, size)
+    saves_at_the_limits(stream, 6, 3)
+    for tail in (b"b", b"bc", b"bca"):
+        stream.hand(handed(rng, b"abc", 0, 6, 9, tail))
+        stream.feed(b"abc")
+        stream.set_method(2)
+        stream.save(512)
+        stream.load(ref.image_of(ref.Search(b"abc", 0, 6, 2, tail)))
+    for pattern in (b"ab", letters(32)):
+        stream.open(pattern, 0, 1)
+        for method in METHODS + NO_METHODS:
+            stream.set_method(6)
+            stream.set_method(method)
+            stream.feed(pattern[:1])
+
+
+def sheets_of_method_6(stream, rng):
+    """Both sides of a page and of its buffer, with windows that are verified in
+    vain and with stops; and every refusal before and after the search."""
+    for lines, spare in itertools.product((1, 50, 51, 101), (-1, 0, 1)):
+        marked(stream, b"ab", 0, 6, repeated(7 * lines, b"baaaxbb"), spare)
+        marked(stream, b"a", 0, 6, repeated(lines, b"a"), spare)
+    for m in (63, 64):
+        for n in (m - 1, m, 2 * m + 1):
+            marked(stream, repeated(m, b"ab").value, 0, 6, repeated(n, b"ab"))
+    for k, places, spare in itertools.product((0, 1, 2), (2, 3), (-1, 0)):
+        marked(stream, b"ab", k, 6, b"bab", spare, places)
+    stream.marked(vs.Marked(65537, b"ab"), 0, 6, repeated(65537, b"ab"), 65537)
+
+
+# Length of the text, the pattern's letters, its length, and others of the text.
+LONG_TEXTS = (
+    (65536, b"a", 1, b""), (65536, b"a", 1, b"x"), (65536, b"ab", 2, b""), (20000, b"aab", 3, b"x"),
+    (9000, b"abcde", 5, b"xyz"), (9000, b"abab" * 9, 36, b"x"), (4000, letters(32), 64, b"~"),
+    (3000, b"ab", 63, b""), (3000, b"ab", 64, b""),
+)
+
+
+def long_texts_of_method_6(stream, rng):
+    """Also the most looks that there are, and the fewest of a long text."""
+    for n, own, m, others in LONG_TEXTS:
+        text = scattered(n, rng.randrange(2**32), own + others)
+        stream.whole(repeated(m, own), 0, 6, text)
+        stream.open(repeated(m, own), 0, 6)
+        for part in (3, 5):
+            stream.feed(scattered(n // part, rng.randrange(2**32), own + others))
+    for n, unit in ((65536, b"a"), (65536, b"x"), (2000, b"b"), (2000, b"a" * 63 + b"b")):
+        stream.whole(b"a" * 63 + b"b", 0, 6, repeated(n, unit))
+
+
+# All windows of three readings that are mixes of `aab`, some of its letters that are
+# none, and a reading that it lacks.
+RECORD = b"abaabbaxa"
+
+
+def handed_over_at_every_cut(stream, rng):
+    """The record twice, from method 6 to another at each place of the first and
+    back again at the same place of the second."""
+    for other, cut in itertools.product(FORMER_METHODS, range(len(RECORD) + 1)):
+        pieces = RECORD[:cut], RECORD[cut:] + RECORD[:cut], RECORD[cut:]
+        fed_in_turn(stream, b"aab", pieces, (6, other, 6))
+
+
+def handed_over_in_an_image(stream, rng):
+    """Saved and loaded between two feeds, and changed in between; then the image
+    has the new method, or one that is none, or a k that the method doesn't take."""
+    for other in FORMER_METHODS:
+        for first, second in ((6, other), (other, 6)):
+            cut = rng.randrange(1, len(RECORD))
+            stream.open(b"aab", 0, first)
+            stream.feed(RECORD[:cut])
+            search = ref.contents(stream.search)
+            stream.save(99)
+            stream.load(ref.image_of(search, rng.choice(ORDERS)))
+            stream.set_method(second)
+            stream.feed(RECORD[cut:])
+            stream.load(ref.image_of(search._replace(method=second), rng.choice(ORDERS)))
+            stream.feed(RECORD[cut:])
+    for k, method in ((0, 7), (1, 6), (2, 6), (3, 6), (1, 7)):
+        stream.load(ref.image_of(search._replace(k=k, method=method)))
+        stream.feed(RECORD[cut:])
+
+
+def tails_of_each_length(stream, rng):
+    """A search that goes on after none to m - 1 readings, with no reading more,
+    with one, and with several."""
+    for m in (1, 2, 5):
+        pattern = repeated(m, b"aab").value
+        for kept, size in itertools.product(range(m), (0, 1, m)):
+            record = make_text(rng, pattern, 0, kept + size)
+            stream.load(ref.image_of(ref.Search(pattern, 0, 6, kept, record[:kept])))
+            stream.feed(record[kept:])
+    long = repeated(64, b"ab").value
+    for kept, size in itertools.product((0, 1, 62, 63), (0, 1, 2)):
+        stream.load(ref.image_of(ref.Search(long, 0, 6, kept, long[:kept])))
+        stream.feed(repeated(size, long[kept:] + b"ax"))
+
+
+def one_by_one(stream, rng):
+    """Pieces of one reading, and empty ones between them."""
+    for pattern in (b"a", b"ab", b"aab", b"abba"):
+        stream.open(pattern, 0, 6)
+        for at in range(len(RECORD)):
+            stream.feed(RECORD[at : at + 1])
+            if at % 3 == 0:
+                stream.feed(b"")
+
+
+def made_of_known_letters(stream, rng):
+    for _ in range(30):
+        m = rng.choice((rng.randrange(1, 5), rng.randrange(1, 10), rng.randrange(1, 65)))
+        pattern = pattern_of(rng, m, rng.randrange(1, 9))
+        text = make_text(rng, pattern, 0, rng.randrange(2 * m + 8))
+        stream.whole(pattern, 0, 6, text, len(text) + rng.choice((0, 0, 1, 5)))
+
+
+def inputs_of_method_6(stream, rng):
+    for pattern, k, text, _, _ in SHEET:
+        stream.report(line(6, k, pattern) + text + rng.choice((b"", b"\n")))
+    for pattern in (b" ", b"a b", b"\r", b"\0\xff", b"-", b"a-"):
+        stream.report(line(6, 0, pattern) + pattern + b"-" + pattern[::-1] + b"\n\n")
+
+
+def series_with_method_6(stream, rng):
+    for _ in range(8):
+        Series(stream, rng, METHODS + (6, 6)).run(rng.randrange(8, 36))
+
+
 # --- All of them ----------------------------------------------------------------------------
 
 FAMILIES = (
@@ -1408,4 +1681,22 @@ FAMILIES = (
     cut_anywhere,
     in_many_pieces,
     images_of_letters_thrice,
+    windows_of_one_reading,
+    lengths_of_known_letters,
+    every_short_text,
+    stops_at_every_offset,
+    verified_windows,
+    known_bytes,
+    most_letters,
+    sides_of_method_6,
+    limits_of_method_6,
+    sheets_of_method_6,
+    long_texts_of_method_6,
+    handed_over_at_every_cut,
+    handed_over_in_an_image,
+    tails_of_each_length,
+    one_by_one,
+    made_of_known_letters,
+    inputs_of_method_6,
+    series_with_method_6,
 )

@@ -3,7 +3,7 @@
 from collections import Counter
 
 import reference as ref
-from compare import METHODS, Coverage
+from compare import METHODS, Coverage, windows_of_method_6
 from vectors_stream import (
     EXACT, FEED, HAND, LOAD, MARKED, OPEN, REPORT, SAVE, SET_METHOD, SEVERAL, WHOLE, WIDTH,
     Handed, Marked,
@@ -47,7 +47,7 @@ FEWEST = {
     "lists that reach past a sheet's positions": 100,
     "no positions, and an empty buffer for the sheet": 10,
     "one position, and an empty buffer for the sheet": 5,
-    "one sheet by all five methods, with unlike looks": 10,
+    "one sheet by all six methods, with unlike looks": 10,
     "calls that method 2 accepts since T-03": 50,
     "calls that method 3 accepts since T-03": 40,
     "calls that method 2 accepted before T-03, with wider fields": 100,
@@ -59,9 +59,15 @@ FEWEST = {
     "a window of letters thrice across a change that is refused with 5": 8,
     "saved searches for letters thrice that are loaded": 4,
     "saved searches for letters thrice that are refused with 5 by another method": 4,
+    "searches by method 6 with a match and a window that is verified in vain": 100,
+    "feeds by method 6 with a match that begins in the tail": 50,
+    "feeds by method 6 with a window from the tail that is verified in vain": 40,
+    "saved searches of method 6 that are loaded": 10,
+    "saved searches of method 6 that are loaded with another": 5,
+    "saved searches of another method that are loaded with 6": 5,
 }
 
-# The calls that refuse with 5.
+# The calls that refuse with 3, 4 and 5.
 MEASURING = WHOLE, OPEN, FEED, SET_METHOD, SAVE, LOAD, REPORT, MARKED
 
 # --- The tests of each call, in their order ------------------------------------
@@ -69,7 +75,7 @@ MEASURING = WHOLE, OPEN, FEED, SET_METHOD, SAVE, LOAD, REPORT, MARKED
 
 def method_tests(pattern, k, method):
     wide = method in (2, 3, 4) and ref.bits_needed(pattern, k, method) > 64
-    return [(3, method not in METHODS), (4, k > 0 and method in (2, 3, 5)), (5, wide)]
+    return [(3, method not in METHODS), (4, k > 0 and method in (2, 3, 5, 6)), (5, wide)]
 
 
 def terms_tests(pattern, k, method):
@@ -197,6 +203,9 @@ class VectorCoverage(Coverage):
         self.in_several = set()
         self.on_paper = set()
         self.looks_of_sheets = {}
+        self.by_letters = set()
+        self.known, self.lacking = set(), set()
+        self.most_looks = 0
 
     def case(self, op, arguments, number, before):
         """A case, and the stored search before it."""
@@ -222,6 +231,8 @@ class VectorCoverage(Coverage):
         elif op == FEED and not number:
             self.searched(search.pattern, search.k, search.method, search.tail + arguments[0])
             self.verifications(op, search.pattern, search.method, search.tail, arguments[0])
+            if search.method == 6:
+                self.from_the_tail(search.pattern, search.tail, arguments[0])
         elif op == SEVERAL and not number:
             self.several(*arguments)
         elif op == MARKED and number in (0, 10):
@@ -229,6 +240,8 @@ class VectorCoverage(Coverage):
         terms = measured_terms(op, arguments, search)
         if terms and terms[2] in (2, 3, 4) and number in (0, 5):
             self.measured(op, number, *terms)
+        if terms:
+            self.beside_method_6(op, number, *terms)
 
     def measured(self, op, number, pattern, k, method):
         """How many bits the fields of a case need, and what it made of that."""
@@ -253,6 +266,8 @@ class VectorCoverage(Coverage):
         match, and windows with one of that letter too many and no other.  The steps
         come to the first window and to each that follows one that matches."""
         super().searched(pattern, k, method, text)
+        if method == 6:
+            self.course(pattern, text)
         if method not in (2, 3):
             return
         m = len(pattern)
@@ -264,6 +279,46 @@ class VectorCoverage(Coverage):
                 if window.count(c) - v == excess:
                     self.fields.add(("a letter that comes", v, "method", method, "over", excess))
 
+    def beside_method_6(self, op, number, pattern, k, method):
+        """Numbers 2 to 4 of method 6 and of those that are none; 64 letters."""
+        m = len(pattern)
+        tolerance = "k = 0" if k == 0 else "k < m" if k < m else "k >= m"
+        self.by_letters.add((NAMES[op], "method", method, tolerance, "number", number))
+        if len(set(pattern)) == ref.LONGEST_PATTERN:
+            self.by_letters.add((NAMES[op], "64 letters, method", method, "number", number))
+
+    def course(self, pattern, text):
+        """Each window that method 6 comes to, and what came before it."""
+        m, n, looks = len(pattern), len(text), 0
+        matches = set(ref.listed_positions(pattern, 0, text))
+        before, kinds = "none", set()
+        for s, at in windows_of_method_6(pattern, text):
+            kind = "stop" if at is not None else "match" if s in matches else "failure"
+            looks += 2 * m if at is None else m - at
+            self.by_letters |= {("m", m, kind, at), (kind, "after", before)}
+            if s == n - m:
+                self.by_letters.add((kind, "in the last window"))
+            before = kind
+            kinds.add(kind)
+        self.by_letters.add(("all windows",) + tuple(sorted(kinds)))
+        if n <= m + 1:
+            self.by_letters.add(("m", m, "readings", n - m))
+        self.most_looks = max(self.most_looks, looks)
+        self.known |= set(pattern) & set(text)
+        self.lacking |= set(text) - set(pattern)
+        with_both = "searches by method 6 with a match and a window that is verified in vain"
+        self.counts[with_both] += {"match", "failure"} <= kinds
+
+    def from_the_tail(self, pattern, tail, chunk):
+        m = len(pattern)
+        self.by_letters.add(("m", m, "tail", len(tail), "chunk", min(len(chunk), 2)))
+        verified = [s for s, at in windows_of_method_6(pattern, tail + chunk) if at is None]
+        matches = ref.listed_positions(pattern, 0, tail + chunk)
+        of_tail = {s in matches for s in verified if s < len(tail)}
+        self.counts["feeds by method 6 with a match that begins in the tail"] += True in of_tail
+        in_vain = "feeds by method 6 with a window from the tail that is verified in vain"
+        self.counts[in_vain] += False in of_tail
+
     def across(self, op, arguments, number, search):
         """Windows that begin before a change of method and end after it."""
         change, self.change = self.change, None
@@ -274,7 +329,10 @@ class VectorCoverage(Coverage):
         elif op == FEED and not number and change:
             text = search.tail + arguments[0]
             first = ref.listed_positions(search.pattern, search.k, text)[:1]
-            if has_thrice(search.pattern) and first and first[0] < len(search.tail):
+            match = bool(first) and first[0] < len(search.tail)
+            at = change, search.pattern, "at", search.n
+            self.by_letters |= {at, (change, "within a match", match)}
+            if has_thrice(search.pattern) and match:
                 self.counts["a window of letters thrice across a change " + change] += 1
 
     def images(self, op, arguments, number, search):
@@ -290,6 +348,14 @@ class VectorCoverage(Coverage):
             ):
                 if has_thrice(loaded.pattern) and holds:
                     self.counts["saved searches for letters thrice that " + kind] += 1
+            six = loaded._replace(method=6)
+            by_6, by_others = six in self.saved, bool((others - {six}) & self.saved)
+            for kind, holds in (
+                ("of method 6 that are loaded", by_6 and loaded == six),
+                ("of method 6 that are loaded with another", by_6 and loaded != six),
+                ("of another method that are loaded with 6", by_others and loaded == six),
+            ):
+                self.counts["saved searches " + kind] += holds and not number
 
     def several(self, handed, k, text, places):
         patterns = ref.cut_up(handed.data, handed.lengths)
@@ -352,7 +418,7 @@ class VectorCoverage(Coverage):
         if method not in looks:
             looks[method] = ref.by_steps(pattern, k, method, text)[1]
             unlike = len(looks) == len(METHODS) and len(set(looks.values())) > 1
-            self.counts["one sheet by all five methods, with unlike looks"] += unlike
+            self.counts["one sheet by all six methods, with unlike looks"] += unlike
 
     def first_line(self, given):
         if ref.parse_input(given) is None:
@@ -438,6 +504,54 @@ class VectorCoverage(Coverage):
         for s in (0, 9, 10, 99, 100, 999, 1000, 9999, 10000, 65534, 65535):
             yield "position", s
 
+    def wanted_beside_method_6(self):
+        """Both sides of 3 and 4, and 2 before them, by every call; and with more
+        letters than fields have room for."""
+        for op in MEASURING:
+            name = NAMES[op]
+            yield name, "method", 6, "k = 0", "number", 0
+            yield name, "method", 6, "k < m", "number", 4
+            for method in (6, 7) if op != SET_METHOD else ():
+                yield name, "method", method, "k >= m", "number", 2
+            for method in (0, 7, 8, 9):
+                yield name, "method", method, "k = 0", "number", 3
+            for method in (7, 9) if op == REPORT else (7, 9, 200, 255):
+                yield name, "method", method, "k < m", "number", 3
+            for method, number in ((2, 5), (3, 5), (4, 5), (6, 0)):
+                yield name, "64 letters, method", method, "number", number
+
+    def wanted_by_letters(self):
+        """A stop at every offset; windows that match and that fail, last, alone, and
+        each kind after each; texts beside m."""
+        for m in (1, 2, 3, 5, 63, 64):
+            for at in range(m):
+                yield "m", m, "stop", at
+            for kind in ("match", "failure") if m > 1 else ("match",):
+                yield "m", m, kind, None
+            for more in (-1, 0, 1) if m in (1, 2, 63, 64) else ():
+                yield "m", m, "readings", more
+        for kind in ("stop", "match", "failure"):
+            yield kind, "in the last window"
+            yield "all windows", kind
+            for before in ("none", "stop", "match", "failure"):
+                yield kind, "after", before
+        yield "all windows", "failure", "match"
+
+    def wanted_over_seams(self):
+        """Every cut of a short record, from method 6 to each other, and back at the
+        same place of its repetition; tails of every length."""
+        for other in METHODS[:5]:
+            there, back = "from method 6 to %d" % other, "from method %d to 6" % other
+            for cut in range(10):
+                yield there, b"aab", "at", cut
+                yield back, b"aab", "at", 9 + cut
+            for change in (there, back):
+                yield change, "within a match", True
+        for m, chunks in ((1, (0, 1)), (2, (0, 1, 2)), (5, (0, 1, 2)), (64, (1,))):
+            for tail in range(m):
+                for chunk in chunks:
+                    yield "m", m, "tail", tail, "chunk", chunk
+
     def wanted_fields(self):
         """Both sides of number 5 by every call, also with 21 letters thrice; each
         count beside a width's edge in windows that match and in windows with one
@@ -492,8 +606,19 @@ class VectorCoverage(Coverage):
         for reached in self.wanted_fields():
             if reached not in self.fields:
                 missing.append("fields: %s" % (reached,))
+        for wanted in (
+            self.wanted_beside_method_6, self.wanted_by_letters, self.wanted_over_seams,
+        ):
+            for reached in wanted():
+                if reached not in self.by_letters:
+                    missing.append("method 6: %s" % (reached,))
         if min(len(self.in_pattern), len(self.in_text), len(self.in_several)) < 256:
             missing.append("byte values")
+        if min(len(self.known), len(self.lacking)) < 256:
+            missing.append("byte values of method 6")
+        # The longest text and pattern, and every window verified.
+        if self.most_looks < 2 * 64 * (65536 - 64 + 1):
+            missing.append("the most looks")
         if min(self.sides.values()) == 0 or self.failed_verification == 0:
             missing.append("a length of text, or a failed verification")
         return missing

@@ -1,26 +1,24 @@
--- A method's number among three.
+-- The methods that take no tolerance but 0, by the bounds of their numbers.
 use mathlib.Core.Path.{_≡_, refl}
-use mathlib.Core.Bool.{true, false, _||_, or-true}
-use mathlib.Core.Logic.{_⊎_, inl, inr, ⊎-elim}
-use Prim.Native.Nat.{ℕ, _+_, _≤_, _<_}
+use mathlib.Core.Bool.{true, false}
+use mathlib.Core.Logic.{⊎-elim}
+use Prim.Native.Nat.{ℕ, _≤_, _<_}
 use native.Mathlib.Omega.{arith}
-use lib.Dec.{eqb}
-use borrow.Author.Tests.{ne-eqb, eq-eqb}
+use borrow.Author.Tests.{ne-eqb}
+use Rattle.jumbled.specs.Refusals.{exactOnly}
 use Rattle.jumbled.proofs.Sums.{below-or-not}
 
-module _ (a b c n : ℕ) where
-  pub other : (n ≡ a → ⊥) → (n ≡ b → ⊥) → (n ≡ c → ⊥) → false ≡ (eqb n a || eqb n b || eqb n c)
-  other not-a not-b not-c = rw (ne-eqb n a not-a, ne-eqb n b not-b, ne-eqb n c not-c) refl
+module _ (n : ℕ) where
+  pub two-three : 2 ≤ n → n < 4 → true ≡ exactOnly n
+  unfolding exactOnly
+  two-three least most =
+      ⊎-elim (λ (l : n < 3). let e : n ≡ 2 = omega arith in rw e refl) (λ (l : 3 ≤ n). let e : n ≡ 3 = omega arith in rw e refl) (below-or-not n 3)
 
-  pub member : (n ≡ a) ⊎ ((n ≡ b) ⊎ (n ≡ c)) → true ≡ (eqb n a || eqb n b || eqb n c)
-  member (inl e) = rw (eq-eqb n a e) refl
-  member (inr (inl e)) = rw (eq-eqb n b e, or-true (eqb n a)) refl
-  member (inr (inr e)) = rw (eq-eqb n c e, or-true (eqb n a || eqb n b)) refl
+  pub five-six : 5 ≤ n → n < 7 → true ≡ exactOnly n
+  unfolding exactOnly
+  five-six least most =
+      ⊎-elim (λ (l : n < 6). let e : n ≡ 5 = omega arith in rw e refl) (λ (l : 6 ≤ n). let e : n ≡ 6 = omega arith in rw e refl) (below-or-not n 6)
 
-  -- the first two stand side by side, or all three
-  pub first-two : a ≤ n → n < 2 + a → b ≡ 1 + a → (n ≡ a) ⊎ ((n ≡ b) ⊎ (n ≡ c))
-  first-two least most next = ⊎-elim (λ (l : n < b). inl (omega arith)) (λ (l : b ≤ n). inr (inl (omega arith))) (below-or-not n b)
-
-  all-three : a ≤ n → n < 3 + a → b ≡ 1 + a → c ≡ 2 + a → (n ≡ a) ⊎ ((n ≡ b) ⊎ (n ≡ c))
-  all-three least most next last =
-      ⊎-elim (λ (l : n < c). first-two least (omega arith) next) (λ (l : c ≤ n). inr (inr (omega arith))) (below-or-not n c)
+  pub no-other : (n ≡ 2 → ⊥) → (n ≡ 3 → ⊥) → (n ≡ 5 → ⊥) → (n ≡ 6 → ⊥) → false ≡ exactOnly n
+  unfolding exactOnly
+  no-other not-2 not-3 not-5 not-6 = rw (ne-eqb n 2 not-2, ne-eqb n 3 not-3, ne-eqb n 5 not-5, ne-eqb n 6 not-6) refl

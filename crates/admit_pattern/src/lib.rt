@@ -1,4 +1,4 @@
-// Which patterns, tolerances and methods are taken: document 01, "When a call says no", 1 to 5.
+// Which patterns, tolerances and methods are taken: document 01, "When a call says no", 1 to 5; document 02, T-03 and T-04.
 
 ghost use mathlib.Core.Path.{_≡_};
 ghost use Prim.Native.Nat.{_≤_};
@@ -14,12 +14,12 @@ use answers::Refusal;
 // The longest pattern.
 pub const LONGEST_PATTERN: usize = 64;
 
-// The method is one of the five.
+// The method is one of the six.
 pub fn is_method(method: u8) -> bool
     ensures { λ r. ⌜ r ≡ isMethod method ⌝ }
 {
     match method {
-        1 | 2 | 3 | 4 | 5 => true,
+        1 | 2 | 3 | 4 | 5 | 6 => true,
         _ => false,
     }
 }
@@ -29,7 +29,7 @@ pub fn exact_only(method: u8) -> bool
     ensures { λ r. ⌜ r ≡ exactOnly method ⌝ }
 {
     match method {
-        2 | 3 | 5 => true,
+        2 | 3 | 5 | 6 => true,
         _ => false,
     }
 }

@@ -28,20 +28,20 @@ pub scan-4 : (P : List ℕ) (k method : ℕ) → (method ≡ 2 → ⊥) → (met
 unfolding scanOf
 scan-4 P k method two three = rw (ne-eqb method 2 two, ne-eqb method 3 three) refl
 
--- each makes at most an inspection a byte
-pub scan-inspections : (P : List ℕ) (k method : ℕ) → length P ≤ 64 → (W : List ℕ) → length W ≤ length P → scanOf P k method W .inspections ≤ 64
+-- each makes at most an inspection a byte; method 6 makes one more for each to verify the window
+pub scan-inspections : (P : List ℕ) (k method : ℕ) → length P ≤ 64 → (W : List ℕ) → length W ≤ length P → scanOf P k method W .inspections ≤ 128
 scan-inspections P k method short W h =
     ⊎-elim two (λ (l : 3 ≤ method). ⊎-elim three (λ (g : 4 ≤ method). rw (scan-4 P k method (λ e. omega arith) (λ e. omega arith)) (omega (arith, abam-most P k W))) (below-or-not method 4)) (below-or-not method 3)
   where
-    other : (method ≡ 2 → ⊥) → (method ≡ 3 → ⊥) → scanOf P k method W .inspections ≤ 64
+    other : (method ≡ 2 → ⊥) → (method ≡ 3 → ⊥) → scanOf P k method W .inspections ≤ 128
     other a b = rw (scan-4 P k method a b) (omega (arith, abam-most P k W))
 
-    two : method < 3 → scanOf P k method W .inspections ≤ 64
+    two : method < 3 → scanOf P k method W .inspections ≤ 128
     two l =
         ⊎-elim (λ (g : method < 2). other (λ e. omega arith) (λ e. omega arith))
         (λ (g : 2 ≤ method). rw (scan-2 P k method (omega arith)) (omega (arith, bam-most P W))) (below-or-not method 2)
 
-    three : method < 4 → scanOf P k method W .inspections ≤ 64
+    three : method < 4 → scanOf P k method W .inspections ≤ 128
     three l = ⊎-elim (λ (g : method < 3). two g) (λ (g : 3 ≤ method). rw (scan-3 P k method (omega arith)) (omega (arith, bam2-most P W))) (below-or-not method 3)
 
 -- ---- the tables by the method's number, as each loop asks for them

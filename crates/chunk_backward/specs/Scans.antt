@@ -1,8 +1,9 @@
--- The scan of a backward method, by its number, the driver of such scans, and what they go by: document 01, "The five methods", 2 to 4.
+-- The scan of a backward method, by its number, the driver of such scans, and what they go by: document 01, "The five methods", 2 to 4. Method 6,
+-- which goes by other tables, has its scan by name.
 use mathlib.Core.Path.{_≡_}
 use mathlib.Core.Bool.{cond}
 use mathlib.Core.List.{List}
-use Prim.Native.Nat.{ℕ}
+use Prim.Native.Nat.{ℕ, _-_, min}
 use lib.Dec.{eqb}
 use lib.ListN.{length}
 use Rattle.jumbled.specs.Match.{Bytes, starts}
@@ -37,7 +38,21 @@ pub record Tabled (P : List ℕ) (k method : ℕ) (word : Word) (units tops : Li
 abbrev pub SearchedFor : List ℕ → (k method : ℕ) → (T : List ℕ) → Range → (before after : List ℕ) → Reached → Type 0
 SearchedFor P k method T range before after r = RangeScanned (scanOf P k method) (length P) T range before after r
 
--- All windows of the tail, which the seam begins with, and of the chunk after it were
+-- The chunk's window starts that are left where the search of the tail's has come so far
+abbrev pub restOf : Split → Reached → Range
+restOf split searched =
+    record {
+      first = min (searched .next - split .«over_tail» .end) (split .«over_chunk» .end);
+      «end» = split .«over_chunk» .end;
+      base = split .«over_chunk» .base;
+      at = searched .at;
+    }
+
+-- All windows of the tail, which the seam begins with, and of the chunk after it were searched by a scan of windows of m bytes
+abbrev pub FoundBy : (List ℕ → Scanned) → ℕ → (seam chunk : List ℕ) → Split → (before after : List ℕ) → SearchCounts → Type 0
+FoundBy scanned m seam chunk split before after r =
+    Found (backwardOver scanned m (joined split seam chunk)) (split .«over_tail» .base) before after r
+
+-- and for P by the method
 abbrev pub FoundFor : List ℕ → (k method : ℕ) → (seam chunk : List ℕ) → Split → (before after : List ℕ) → SearchCounts → Type 0
-FoundFor P k method seam chunk split before after r =
-    Found (backwardOver (scanOf P k method) (length P) (joined split seam chunk)) (split .«over_tail» .base) before after r
+FoundFor P k method seam chunk split before after r = FoundBy (scanOf P k method) (length P) seam chunk split before after r

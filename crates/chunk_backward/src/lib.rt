@@ -1,18 +1,31 @@
-// Methods 2, 3 and 4 over a tail followed by a chunk: first the windows of the seam, then those of the chunk that the last scan did not pass over.
+// Methods 2, 3, 4 and 6 over a tail followed by a chunk: first the windows of the seam, then those of the chunk that the last scan did not pass over.
 
 ghost use mathlib.Core.Path.{_≡_};
+ghost use Prim.Native.Nat.{_≤_};
 ghost use lib.ListN.{length};
+ghost use Rattle.jumbled.specs.Steps.{eblScan};
 ghost use Rattle.table_parikh.specs.Table.{parikh};
 ghost use Rattle.table_packed.specs.Word.{Packable};
 ghost use Rattle.lent.specs.Loops.{Fitting};
 ghost use Rattle.chunk_seam.specs.Joined.{Prepared};
-ghost use Rattle.chunk_backward.specs.Scans.{Tabled, SearchedFor, FoundFor};
+ghost use Rattle.chunk_backward.specs.Scans.{Tabled, restOf, SearchedFor, FoundBy, FoundFor};
 use chunk_seam::Split;
 use lent::Range;
 use lent::SearchCounts;
 use lent::least;
 use loop_backward::Reached;
 use table_packed::Word;
+
+// The window starts of the chunk that are left after those of the tail: the last scan in the tail may pass over some, all of them at most.
+fn rest_of(split: Split, searched: Reached) -> Range
+    requires { ⌜ split .«over_tail» .end ≤ searched .next ⌝ }
+    ensures { λ r. ⌜ r ≡ restOf split searched ⌝ }
+{
+    let mut rest = split.over_chunk;
+    rest.first = least(searched.next - split.over_tail.end, rest.end);
+    rest.at = searched.at;
+    rest
+}
 
 // Methods 2, 3 and 4 over the windows of one range.
 fn backward_range(
@@ -66,10 +79,6 @@ fn backward_both(
         split.over_tail,
         list,
     );
-    let mut over_chunk = split.over_chunk;
-    // The last scan in the tail may pass over window starts of the chunk, all of them at most.
-    over_chunk.first = least(first.next - split.over_tail.end, over_chunk.end);
-    over_chunk.at = first.at;
     let second = backward_range(
         pattern,
         k,
@@ -78,7 +87,7 @@ fn backward_both(
         units,
         tops,
         chunk,
-        over_chunk,
+        rest_of(split, first),
         list,
     );
     SearchCounts {
@@ -135,4 +144,28 @@ pub fn backward_chunk(
         split,
         list,
     )
+}
+
+// Method 6 over the seam and then the chunk, by the counts of the pattern.
+pub fn ebl_chunk(
+    pattern: &[u8],
+    counts: &[u8; 256],
+    seam: &[u8],
+    chunk: &[u8],
+    split: Split,
+    list: &mut [u32],
+) -> SearchCounts
+    requires { ⌜ Prepared (length (now pattern)) (now seam) (now chunk) split (now list) ⌝ }
+    requires counted { ⌜ now counts ≡ parikh (now pattern) ⌝ }
+    ensures { λ r. ⌜ FoundBy (eblScan (now (pattern .entry))) (length (now (pattern .entry))) (now (seam .entry)) (now (chunk .entry)) split
+        (now (list .entry)) (now (list .exit)) r ⌝ }
+{
+    let m = pattern.len();
+    let occurs = table_parikh::occurring(pattern);
+    let first = loop_ebl::ebl(m, counts, &occurs, seam, split.over_tail, list);
+    let second = loop_ebl::ebl(m, counts, &occurs, chunk, rest_of(split, first), list);
+    SearchCounts {
+        found: second.at,
+        inspections: first.inspections + second.inspections,
+    }
 }

@@ -112,4 +112,4 @@ module _ {m : ℕ} {seam chunk : List ℕ} {split : Split} {list : List ℕ} (re
         forward-inspections verification =
             inspections-fit ready (seamed judged m seam split) few listed _ listed'
             (omega (arith, ready .joinable .short, forward-most judged m seam 64 verification 0 (split .«over_tail» .end)))
-            (rw from-first (forward-most judged m chunk 64 verification 0 (split .«over_chunk» .end)))
+            (rw from-first (omega (arith, forward-most judged m chunk 64 verification 0 (split .«over_chunk» .end))))

@@ -128,5 +128,5 @@ module _ {m : ℕ} {seam chunk : List ℕ} {split : Split} {list : List ℕ} (re
               ∙ sym (shifted-append base (one .occurrences) (shifted tail (two .occurrences)))
 
       -- and the inspections fit
-      pub inspections-fit : one .inspections ≤ 64 + 65 * split .«over_tail» .end → two .inspections ≤ 65 * split .«over_chunk» .end → inspections + inspections' < 2 ^ 64
+      pub inspections-fit : one .inspections ≤ 64 + 128 * split .«over_tail» .end → two .inspections ≤ 128 * split .«over_chunk» .end → inspections + inspections' < 2 ^ 64
       inspections-fit most most' = omega arith

@@ -3,6 +3,7 @@
 ghost use mathlib.Core.List.{_++_};
 ghost use Rattle.chunk_search.specs.Searchable.{Searchable, SplitSearchable, Stepped, SplitStepped};
 use chunk_backward::backward_chunk;
+use chunk_backward::ebl_chunk;
 use chunk_forward::count_chunk;
 use chunk_forward::hcam_chunk;
 use chunk_seam::Split;
@@ -66,6 +67,9 @@ fn search_split(
     }
     if method == 5 {
         return hcam_chunk(pattern, counts, seam, chunk, split, list);
+    }
+    if method == 6 {
+        return ebl_chunk(pattern, counts, seam, chunk, split, list);
     }
     backward_chunk(
         pattern,

@@ -162,16 +162,16 @@ width-taken P k method e = ltb-false 64 (bits P (layoutOf k method)) (given-one 
 -- what it says that none of them applies
 pub record MethodTaken (P : List ℕ) (k method : ℕ) : Type 0 where
   pub least : 1 ≤ method
-  pub most : method ≤ 5
+  pub most : method ≤ 6
   pub no-tolerance : exactOnly method ≡ true → k ≡ 0
   pub narrow : bits P (layoutOf k method) ≤ 64
 
 -- a method's number is within these bounds
-method-bounds : (method : ℕ) → isMethod method ≡ true → (1 ≤ method) × (method ≤ 5)
+method-bounds : (method : ℕ) → isMethod method ≡ true → (1 ≤ method) × (method ≤ 6)
 unfolding isMethod
 method-bounds method e =
-    let known = and-true (leb 1 method) (leb method 5) e in
-    (leb-true 1 method (known .0), leb-true method 5 (known .1))
+    let known = and-true (leb 1 method) (leb method 6) e in
+    (leb-true 1 method (known .0), leb-true method 6 (known .1))
 
 pub method-taken : (P : List ℕ) (k method : ℕ) → given (methodTests P k method) ≡ 0 → MethodTaken P k method
 unfolding methodTests

@@ -1,4 +1,4 @@
--- Laws of `Bytes`, `cc` and `excess`.
+-- Laws of `Bytes`, `cc`, `occurs` and `excess`.
 use mathlib.Core.Path.{_≡_, refl, sym, ap, ap₂, _∙_}
 use mathlib.Core.Bool.{Bool, true, false, cond}
 use mathlib.Core.List.{List, [], _∷_, _++_, append-nil}
@@ -9,8 +9,8 @@ use native.Mathlib.Omega.{arith}
 use lib.Dec.{eqb, leb}
 use lib.ListN.{length, getD, take, drop, take-append-drop}
 use lib.Seq.{take-append-seam, drop-append-seam}
-use borrow.Author.Tests.{ne-eqb, eqb-true, le-leb, lt-leb}
-use Rattle.jumbled.specs.Match.{Bytes, bit, cc, sum, usedUp, excess}
+use borrow.Author.Tests.{eq-eqb, ne-eqb, eqb-true, le-leb, lt-leb, not-false}
+use Rattle.jumbled.specs.Match.{Bytes, bit, cc, occurs, sum, usedUp, excess}
 use Rattle.jumbled.proofs.Sums.{below-or-not, sum-zeros, sum-ext, sum-mono, sum-add, sum-at, sum-same, sum-point}
 
 -- ---- bytes
@@ -88,6 +88,21 @@ cc-out [] c h l = refl
 cc-out (b ∷ U) c h l =
     let hb = bytes-head h in
     rw (ne-eqb b c (λ e. omega arith), cc-out U c (bytes-tail h) l) refl
+
+-- ---- occurs
+
+pub occurs-some : (U : List ℕ) (c : ℕ) → 0 < cc U c → occurs U c ≡ true
+unfolding occurs
+occurs-some U c h = rw (ne-eqb (cc U c) 0 (λ e. omega arith)) refl
+
+pub occurs-none : (U : List ℕ) (c : ℕ) → cc U c ≡ 0 → occurs U c ≡ false
+unfolding occurs
+occurs-none U c h = rw (eq-eqb (cc U c) 0 h) refl
+
+-- a letter that does not occur has no count
+pub lacked : (U : List ℕ) (c : ℕ) → occurs U c ≡ false → cc U c ≡ 0
+unfolding occurs
+lacked U c e = eqb-true (cc U c) 0 (not-false (eqb (cc U c) 0) e)
 
 -- the counts of all bytes add up to the length
 cc-total : (U : List ℕ) → Bytes U → sum 256 (cc U) ≡ length U

@@ -9,9 +9,11 @@ pub mod Drivers
 pub mod Cuts
 pub mod Scans
 pub mod Overflow
+pub mod Ebl
 pub mod Ranks
 pub mod HeapSums
 pub mod Admission
+pub mod Never
 pub mod Methods
 pub mod Positions
 pub mod Former

@@ -9,13 +9,14 @@ use lib.ListN.{length}
 use Rattle.jumbled.specs.Match.{Bytes, matches, starts, positions}
 use Rattle.jumbled.specs.Scan.{Scanned, singles, pairs, backward, Judged, forward}
 use Rattle.jumbled.specs.Fields.{bamLayout, bam2Layout, abamLayout, overflows, errors}
-use Rattle.jumbled.specs.Steps.{countJudged, bamScan, bam2Scan, abamScan, hcamJudged, steps}
+use Rattle.jumbled.specs.Steps.{countJudged, bamScan, bam2Scan, abamScan, hcamJudged, eblScan, steps}
 use Rattle.jumbled.specs.Refusals.{given, exactOnly, patternTests}
 use Rattle.jumbled.proofs.Admission.{MethodTaken, admitted}
 use Rattle.jumbled.proofs.Drivers.{Sound, backward-lists, forward-lists}
 use Rattle.jumbled.proofs.Scans.{scan-sound, scan-most, by-singles, by-pairs}
 use Rattle.jumbled.proofs.Overflow.{overflows-exact, errors-exact, bam-roomy, bam2-roomy, abam-roomy}
 use Rattle.jumbled.proofs.HeapSums.{hcam-judges}
+use Rattle.jumbled.proofs.Ebl.{ebl-sound}
 
 -- ---- each method's scan or judgement
 
@@ -77,7 +78,9 @@ by-method P k (suc (suc (suc zero))) T hP hT taken =
 by-method P k (suc (suc (suc (suc zero)))) T hP hT taken = backward-positions P k T hT (abamScan P k) (abam-sound P k hP)
 by-method P k (suc (suc (suc (suc (suc zero))))) T hP hT taken =
     rw (taken .no-tolerance refl) (forward-positions P 0 T hT (hcamJudged P) (λ W b e. hcam-judges P hP W b e) _)
-by-method P k (suc (suc (suc (suc (suc (suc n)))))) T hP hT taken = absurd (let most = taken .most in omega arith)
+by-method P k (suc (suc (suc (suc (suc (suc zero)))))) T hP hT taken =
+    rw (taken .no-tolerance refl) (backward-positions P 0 T hT (eblScan P) (ebl-sound P))
+by-method P k (suc (suc (suc (suc (suc (suc (suc n))))))) T hP hT taken = absurd (let most = taken .most in omega arith)
 
 -- Whatever is not refused by 1 to 5: the positions of the method's steps are exactly the listed positions
 pub methods-list : (P : List ℕ) (k method : ℕ) (T : List ℕ) → Bytes P → Bytes T → given (patternTests P k method) ≡ 0

@@ -1,24 +1,16 @@
 -- Laws of `rank`, `heapValue` and `exact`, byte by byte.
 use mathlib.Core.Path.{_≡_, refl, sym, ap, _∙_}
-use mathlib.Core.Bool.{Bool, true, false}
+use mathlib.Core.Bool.{Bool}
 use mathlib.Core.List.{List}
 use Prim.Native.Nat.{ℕ, zero, suc, _+_, _-_, _%_, _^_, _≤_, _<_}
 use native.Mathlib.Nat.{add-zero, add-suc}
 use native.Mathlib.Numerals.{add-one}
 use native.Mathlib.Omega.{arith}
 use lib.Dec.{leb}
-use borrow.Author.Tests.{eq-eqb, ne-eqb}
-use Rattle.jumbled.specs.Match.{bit, cc, sum}
-use Rattle.jumbled.specs.Heap.{occurs, rank, radix, heapValue, exact}
+use Rattle.jumbled.specs.Match.{bit, cc, occurs, sum}
+use Rattle.jumbled.specs.Heap.{rank, radix, heapValue, exact}
 use Rattle.jumbled.proofs.Sums.{sum-zero, sum-suc}
-
-occurs-some : (P : List ℕ) (c : ℕ) → 0 < cc P c → occurs P c ≡ true
-unfolding occurs
-occurs-some P c h = rw (ne-eqb (cc P c) 0 (λ e. omega arith)) refl
-
-occurs-none : (P : List ℕ) (c : ℕ) → cc P c ≡ 0 → occurs P c ≡ false
-unfolding occurs
-occurs-none P c h = rw (eq-eqb (cc P c) 0 h) refl
+use Rattle.jumbled.proofs.Counts.{occurs-some, occurs-none}
 
 rank-zero : (P : List ℕ) → rank P 0 ≡ 0
 unfolding rank

@@ -2,7 +2,7 @@
 use mathlib.Core.Path.{_≡_, refl, sym, ap, _∙_}
 use mathlib.Core.Bool.{Bool, true, false, cond}
 use mathlib.Core.List.{List, [], _∷_, _++_, append-assoc, append-nil, reverse, reverse-cons, reverse-reverse}
-use Prim.Native.Nat.{ℕ, _+_, _≤_, _<_}
+use Prim.Native.Nat.{ℕ, _+_, _-_, _≤_, _<_}
 use native.Mathlib.Nat.{le-trans, le-refl}
 use native.Mathlib.Omega.{arith}
 use lib.Dec.{ltb}
@@ -25,9 +25,26 @@ pub data Groups (q : ℕ) : List ℕ → List (List ℕ) → Type 0 where
   more : {U : List ℕ} {groups : List (List ℕ)} (group : List ℕ) → length group ≤ q → Groups q U groups → Groups q (U ++ group) (group ∷ groups)
 
 -- what a scan shows of the window W
-record Right (P : List ℕ) (k : ℕ) (W : List ℕ) (w : Scanned) : Type 0 where
-  lists : w .listed ≡ matches P k W
-  passes : 0 < w .offset → k < excess P (drop (w .offset) W)
+pub record Right (P : List ℕ) (k : ℕ) (W : List ℕ) (w : Scanned) : Type 0 where
+  pub lists : w .listed ≡ matches P k W
+  pub passes : 0 < w .offset → k < excess P (drop (w .offset) W)
+
+-- of every window it is sound
+pub sound-of : {P : List ℕ} {k : ℕ} {scanned : List ℕ → Scanned} → ((W : List ℕ) → Bytes W → length W ≡ length P → Right P k W (scanned W))
+    → Sound P k scanned
+sound-of right = record { lists = λ W b e. right W b e .lists; passes = λ W b e. right W b e .passes }
+
+-- a stop after the part R was read, the bytes left of it not: what R has too much of, the window has too
+pub stop-right : (P : List ℕ) (k m : ℕ) (left R : List ℕ) → length (left ++ R) ≡ m → k < excess P R → Right P k (left ++ R) (stopped m R)
+unfolding matches
+stop-right P k m left R e over =
+    record {
+      lists = sym (lt-leb (excess P (left ++ R)) k (le-trans over (excess-left P left R)));
+      passes = λ l. rw (at, drop-append-seam left R) over;
+    }
+  where
+    at : m - length R ≡ length left
+    at = omega (arith, length-append left R)
 
 module _ (P : List ℕ) (k q : ℕ) (stop : List ℕ → Bool) (exact : Exact P k q stop) where
   scan-right : (m : ℕ) (R U : List ℕ) (groups : List (List ℕ)) → Groups q U groups → Bytes U → Bytes R → excess P R ≤ k
@@ -51,26 +68,15 @@ module _ (P : List ℕ) (k q : ℕ) (stop : List ℕ → Bool) (exact : Exact P 
       tells : stop (group ++ R) ≡ ltb k (excess P (group ++ R))
       tells = exact .tells (group ++ R) bytes-read (omega (arith, excess-append P group R bytes-group))
 
-      -- the bytes left of the stop are those that are not read
-      at : stopped m (group ++ R) .offset ≡ length left
-      at = omega (arith, ap length regroup, length-append left (group ++ R))
-
-      over : k < excess P (group ++ R) → Right P k (left ++ group ++ R) (stopped m (group ++ R))
-      over h =
-          record {
-            lists = sym (lt-leb (excess P (left ++ group ++ R)) k (rw regroup (le-trans h (excess-left P left (group ++ R)))));
-            passes = λ l. rw (at, regroup, drop-append-seam left (group ++ R)) h;
-          }
-
       step : (t : Bool) → stop (group ++ R) ≡ t
           → (excess P (group ++ R) ≤ k → Right P k (left ++ (group ++ R)) (scan stop m (group ++ R) later))
           → Right P k (left ++ group ++ R) (cond t (stopped m (group ++ R)) (scan stop m (group ++ R) later))
-      step true s go = over (ltb-true k (excess P (group ++ R)) (sym tells ∙ s))
+      step true s go = rw regroup (stop-right P k m left (group ++ R) (ap length (sym regroup) ∙ e) (ltb-true k (excess P (group ++ R)) (sym tells ∙ s)))
       step false s go = rw regroup (go (ltb-false k (excess P (group ++ R)) (sym tells ∙ s)))
 
   pub scan-sound : (cut : List ℕ → List (List ℕ)) → ((W : List ℕ) → Groups q W (cut W))
       → Sound P k (λ W. scan stop (length P) [] (cut W))
-  scan-sound cut groups = record { lists = λ W b e. right W b e .lists; passes = λ W b e. right W b e .passes }
+  scan-sound cut groups = sound-of right
     where
       right : (W : List ℕ) → Bytes W → length W ≡ length P → Right P k W (scan stop (length P) [] (cut W))
       right W b e =

@@ -4,11 +4,11 @@ use mathlib.Core.List.{List, [], _∷_, map}
 use Prim.Native.Nat.{ℕ}
 use Prim.Native.Char.{code}
 use Prim.Native.String as Text
-use Rattle.jumbled.specs.Match.{cc, sum, excess, matches, select, positions}
+use Rattle.jumbled.specs.Match.{cc, occurs, sum, excess, matches, select, positions}
 use Rattle.jumbled.specs.Scan.{Result, scan, singles, pairs, backward, forward}
 use Rattle.jumbled.specs.Fields.{first, lg, letterWidth, fieldOf, widthOf, startValue, valueOf, topSet, some, overflows, ownTopSet, errors}
-use Rattle.jumbled.specs.Heap.{occurs, rank, heapValue, heapSum, exact}
-use Rattle.jumbled.specs.Steps.{countJudged, bamScan, bam2Scan, abamScan, hcamJudged, steps}
+use Rattle.jumbled.specs.Heap.{rank, heapValue, heapSum, exact}
+use Rattle.jumbled.specs.Steps.{countJudged, bamScan, bam2Scan, abamScan, hcamJudged, lacks, eblScan, steps}
 
 -- A text's letters as their ASCII codes
 ascii : Text.String → List ℕ
@@ -52,3 +52,21 @@ Every (r ∷ rs) = Right r × Every rs
 sheet : Every rows
 unfolding rows row ascii positions cc sum excess matches select scan singles pairs backward forward first lg letterWidth fieldOf widthOf startValue valueOf topSet some overflows ownTopSet errors occurs rank heapValue heapSum exact countJudged bamScan bam2Scan abamScan hcamJudged steps
 sheet = ((refl, refl), ((refl, refl), ((refl, refl), ((refl, refl), ((refl, refl), ((refl, refl), ((refl, refl), ((refl, refl), tt))))))))
+
+-- ---- method 6 (document 02, T-04)
+
+-- The sheet's records with k = 0 by its steps, and a record with a window that is verified and does not match, a stop, and a match
+eblRows : List Row
+eblRows =
+    row "ab" 0 "aab" (1 ∷ []) ((6, 8) ∷ [])
+    ∷ row "abc" 0 "abcxxxabc" (0 ∷ 6 ∷ []) ((6, 15) ∷ [])
+    ∷ row "a" 0 "aba" (0 ∷ 2 ∷ []) ((6, 5) ∷ [])
+    ∷ row "ab" 0 "a" [] ((6, 0) ∷ [])
+    ∷ row "ab" 0 "xb" [] ((6, 2) ∷ [])
+    ∷ row "accgta" 0 "ccgatacgcattgac" (0 ∷ 1 ∷ 3 ∷ 4 ∷ 5 ∷ []) ((6, 120) ∷ [])
+    ∷ row "aab" 0 "abbxaba" (4 ∷ []) ((6, 13) ∷ [])
+    ∷ []
+
+sheet-by-ebl : Every eblRows
+unfolding eblRows row ascii positions cc occurs sum excess matches select scan singles backward lacks eblScan steps
+sheet-by-ebl = ((refl, refl), ((refl, refl), ((refl, refl), ((refl, refl), ((refl, refl), ((refl, refl), ((refl, refl), tt)))))))

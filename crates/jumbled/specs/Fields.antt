@@ -50,7 +50,7 @@ bam2Layout = record { own = letterWidth; common = 2 }
 abbrev pub abamLayout : ℕ → Layout
 abamLayout k = record { own = λ v. lg (max v k) + 2; common = lg k + 2 }
 
--- Methods 1 and 5 have no fields
+-- Methods 1, 5 and 6 have no fields, so 5 is never given for them
 abbrev pub noLayout : Layout
 noLayout = record { own = λ v. 0; common = 0 }
 

@@ -1,14 +1,10 @@
 -- The heap values of method 5: document 01, "The five methods", 5, after document 001.
 use Prim.Native.Nat.{ℕ, _+_, _%_, _^_}
-use mathlib.Core.Bool.{Bool, cond, not}
+use mathlib.Core.Bool.{Bool, cond}
 use mathlib.Core.List.{List, [], _∷_}
-use lib.Dec.{leb, eqb}
+use lib.Dec.{leb}
 use lib.ListN.{length}
-use Rattle.jumbled.specs.Match.{bit, cc, sum}
-
--- The letter c occurs in P
-unfoldable pub occurs : List ℕ → ℕ → Bool
-occurs P c = not (eqb (cc P c) 0)
+use Rattle.jumbled.specs.Match.{bit, occurs, sum}
 
 -- How many distinct letters of P are below c. Of a letter of P it is the i of c_i; of 256 it is q.
 unfoldable pub rank : List ℕ → ℕ → ℕ

@@ -1,7 +1,7 @@
 -- What a match is: document 01, "What a match is"; document 000, section 1.
 -- A text, a pattern and a window are lists of bytes. Document 01 calls a byte a reading or a letter, and a text a record.
 use Prim.Native.Nat.{ℕ, zero, suc, _+_, _-_, _<_}
-use mathlib.Core.Bool.{Bool, cond}
+use mathlib.Core.Bool.{Bool, cond, not}
 use mathlib.Core.List.{List, [], _∷_}
 use lib.Dec.{leb, eqb}
 use lib.ListN.{length, getD, take, drop}
@@ -18,6 +18,10 @@ bit b = cond b 1 0
 unfoldable pub cc : List ℕ → ℕ → ℕ
 cc [] c = 0
 cc (b ∷ U) c = bit (eqb b c) + cc U c
+
+-- The letter c occurs in U
+unfoldable pub occurs : List ℕ → ℕ → Bool
+occurs U c = not (eqb (cc U c) 0)
 
 -- f(0) + f(1) + ... + f(n - 1)
 unfoldable pub sum : ℕ → (ℕ → ℕ) → ℕ

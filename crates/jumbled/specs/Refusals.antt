@@ -22,13 +22,13 @@ given (t ∷ ts) = cond (t .applies) (t .number) (given ts)
 
 -- ---- the methods by their numbers
 
--- A method: 1 to 5
+-- A method: 1 to 6 (document 02, T-04)
 unfoldable pub isMethod : ℕ → Bool
-isMethod method = leb 1 method && leb method 5
+isMethod method = leb 1 method && leb method 6
 
--- A method that takes no tolerance but 0: 2, 3 and 5
+-- A method that takes no tolerance but 0: 2, 3, 5 and 6 (document 02, T-04)
 unfoldable pub exactOnly : ℕ → Bool
-exactOnly method = eqb method 2 || eqb method 3 || eqb method 5
+exactOnly method = eqb method 2 || eqb method 3 || eqb method 5 || eqb method 6
 
 -- ---- of several numbers
 

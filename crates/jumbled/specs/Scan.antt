@@ -1,4 +1,5 @@
--- The two ways of going through a text: document 01, "The five methods", the sentences above the list, and 1 and 5 for the sliding window.
+-- The two ways of going through a text: document 01, "The five methods", the sentences above the list, and 1 and 5 for the sliding window;
+-- document 02, T-04, for method 6, which goes through it as 2, 3 and 4 do.
 -- An inspection is document 01's look: one byte taken by the steps.
 use Prim.Native.Nat.{ℕ, zero, suc, _+_, _-_}
 use mathlib.Core.Bool.{Bool, true, false, cond}
@@ -23,10 +24,10 @@ note listed s taken rest =
       inspections = taken + rest .inspections;
     }
 
--- ---- backward: methods 2, 3 and 4
+-- ---- backward: methods 2, 3, 4 and 6
 
 -- The scan of the window at s: whether s is listed, the offset p - s of the position p at which it stopped, or 0 where all of the window
--- was read, and the inspections. The search goes on at p + 1, after a match at s + 1: at s + offset + 1.
+-- was read, and the inspections. The search goes on at p + 1, where all was read at s + 1: at s + offset + 1.
 pub record Scanned : Type 0 where
   pub listed : Bool
   pub offset : ℕ
@@ -46,7 +47,7 @@ unfoldable pub scan : (List ℕ → Bool) → ℕ → List ℕ → List (List �
 scan stop m R [] = completed R
 scan stop m R (group ∷ groups) = cond (stop (group ++ R)) (stopped m (group ++ R)) (scan stop m (group ++ R) groups)
 
--- A window's bytes, the rightmost first, in groups of one (methods 2 and 4)
+-- A window's bytes, the rightmost first, in groups of one (methods 2, 4 and 6)
 unfoldable pub singles : List ℕ → List (List ℕ)
 singles [] = []
 singles (b ∷ more) = (b ∷ []) ∷ singles more

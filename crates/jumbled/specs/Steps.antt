@@ -1,11 +1,11 @@
--- The steps of the five methods: document 01, "The five methods", 1 to 5. The methods have the papers' names:
--- 1 count, 2 bam (packed backward), 3 bam2 (pairs backward), 4 abam (approximate backward), 5 hcam (heap values).
-use Prim.Native.Nat.{ℕ}
+-- The steps of the six methods: document 01, "The five methods", 1 to 5, and document 02, T-04, for 6. The methods have the papers' names:
+-- 1 count, 2 bam (packed backward), 3 bam2 (pairs backward), 4 abam (approximate backward), 5 hcam (heap values), 6 ebl (without counters).
+use Prim.Native.Nat.{ℕ, _+_}
 use mathlib.Core.Bool.{Bool, true, false, cond, not, _&&_}
-use mathlib.Core.List.{List, [], reverse}
+use mathlib.Core.List.{List, [], _∷_, reverse}
 use lib.Dec.{ltb, eqb}
 use lib.ListN.{length}
-use Rattle.jumbled.specs.Match.{matches, window, starts, select}
+use Rattle.jumbled.specs.Match.{occurs, matches, window, starts, select}
 use Rattle.jumbled.specs.Scan.{Result, nothing, Scanned, scan, singles, pairs, backward, Judged, unverified, forward}
 use Rattle.jumbled.specs.Fields.{Layout, bamLayout, bam2Layout, abamLayout, overflows, errors}
 use Rattle.jumbled.specs.Heap.{heapSum, exact}
@@ -44,6 +44,22 @@ verified P W = eqb (heapSum P W) (heapSum P P) && not (exact P)
 unfoldable pub verifiedStarts : List ℕ → List ℕ → List ℕ
 verifiedStarts P T = select (λ s. verified P (window (length P) T s)) 0 (starts (length P) T)
 
+-- 6 stops at a byte that P lacks: the byte last read, the first of the part R
+unfoldable pub lacks : List ℕ → List ℕ → Bool
+lacks P [] = false
+lacks P (b ∷ R) = not (occurs P b)
+
+-- The scan w has read all of the window W: it is verified by counting, m inspections more, and the search goes on at s + 1 whether it is listed
+-- or not
+abbrev pub verifiedAfter : Scanned → List ℕ → List ℕ → Scanned
+verifiedAfter w P W = record { listed = matches P 0 W; offset = 0; inspections = w .inspections + length P }
+
+-- 6: one byte a step. A scan that has met no byte that P lacks has read all of the window.
+unfoldable pub eblScan : List ℕ → List ℕ → Scanned
+eblScan P W =
+    let w : Scanned = scan (lacks P) (length P) [] (singles (reverse W)) in
+    cond (w .listed) (verifiedAfter w P W) w
+
 -- The steps of a method, by its number, over a text; a number that is no method's yields nothing
 unfoldable pub steps : List ℕ → ℕ → ℕ → List ℕ → Result
 steps P k method T =
@@ -52,4 +68,5 @@ steps P k method T =
     (cond (eqb method 3) (backward (bam2Scan P) (length P) T 0 (starts (length P) T) 0)
     (cond (eqb method 4) (backward (abamScan P k) (length P) T 0 (starts (length P) T) 0)
     (cond (eqb method 5) (forward (hcamJudged P) (length P) T 0 (starts (length P) T) (length P))
-    nothing))))
+    (cond (eqb method 6) (backward (eblScan P) (length P) T 0 (starts (length P) T) 0)
+    nothing)))))

@@ -17,7 +17,8 @@ use Rattle.table_packed.specs.declared.Word.{Word}
 use Rattle.table_packed.proofs.Values.{word-own-top}
 use Rattle.lent.specs.declared.Range.{Range}
 use Rattle.loop_backward.proofs.Reading.{Method}
-use Rattle.loop_backward.proofs.Scanning.{readFrom, Window, Inner, Taken, read-none, inner-first, read-more, inner-fitting}
+use Rattle.loop_backward.proofs.Leftward.{readFrom, read-none, read-more}
+use Rattle.loop_backward.proofs.Scanning.{Window, Inner, Taken, window-upto, inner-first, inner-fitting}
 
 -- The window at s₀ is read down to p, with as many errors as the steps count
 pub record ErrorsCounted (P : List ℕ) (M : Method) (T : List ℕ) (s₀ inspections₀ s inspections word errors p : ℕ) : Type 0 where
@@ -44,7 +45,8 @@ counting-few {P} {M} {T} {s₀} {p = p} c =
 pub counting-first : {P : List ℕ} {M : Method} {packing : Word} {units T : List ℕ} {range : Range} {before : List ℕ} {s₀ at inspections₀ : ℕ} {after : List ℕ}
     → Window P M packing units T range before s₀ at inspections₀ after → ErrorsCounted P M T s₀ inspections₀ s₀ inspections₀ (packing .start) 0 (s₀ + length P)
 unfolding errorsOf
-counting-first {P} {M} w = record { inner = inner-first w; counted = sym (ap (errorsOf P (M .layout)) (read-none w)) }
+counting-first {P} {M} {T = T} {s₀ = s₀} w =
+    record { inner = inner-first w; counted = sym (ap (errorsOf P (M .layout)) (read-none (length P) T s₀ (window-upto w))) }
 
 module _ {P : List ℕ} {M : Method} {packing : Word} {units T : List ℕ} {range : Range} {before : List ℕ} {s₀ at inspections₀ : ℕ} {after : List ℕ}
     (w : Window P M packing units T range before s₀ at inspections₀ after) {tops : List ℕ} (own-tops : OwnTops P (M .layout) tops) {s inspections word p next-word next-inspections : ℕ} (inner : Inner P M T s₀ inspections₀ s inspections word p) (more : s < p)
@@ -59,7 +61,8 @@ module _ {P : List ℕ} {M : Method} {packing : Word} {units T : List ℕ} {rang
       → errorsOf P (M .layout) (readFrom (length P) T s₀ (p - 1)) ≡ bit t + errorsOf P (M .layout) (readFrom (length P) T s₀ p)
   unfolding errorsOf
   grown t e =
-      let read : readFrom (length P) T s₀ (p - 1) ≡ getD T (p - 1) 0 ∷ readFrom (length P) T s₀ p = read-more w p (omega (arith, inner .same)) (inner .upto) in
+      let read : readFrom (length P) T s₀ (p - 1) ≡ getD T (p - 1) 0 ∷ readFrom (length P) T s₀ p
+      = read-more (length P) T s₀ (window-upto w) p (omega (arith, inner .same)) (inner .upto) in
       ap (errorsOf P (M .layout)) read ∙ ap (λ (b : Bool). bit b + errorsOf P (M .layout) (readFrom (length P) T s₀ p)) (rw read at e)
 
   -- an error, and none

@@ -1,4 +1,5 @@
 pub mod Windows
+pub mod Leftward
 pub mod Reading
 pub mod Scanning
 pub mod Methods

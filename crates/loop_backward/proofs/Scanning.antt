@@ -1,13 +1,12 @@
 -- The leftward loop over a window of a text, by its position p: what holds where its test is reached, and the ways it goes on.
 use mathlib.Core.Path.{_≡_, refl, sym, ap, _∙_}
 use mathlib.Core.Bool.{true, false, not}
-use mathlib.Core.List.{List, [], _∷_}
+use mathlib.Core.List.{List}
 use Prim.Native.Nat.{ℕ, suc, _+_, _-_, _^_, _≤_, _<_}
 use native.Mathlib.Omega.{arith}
 use lib.Bits.{bitAnd}
 use lib.Dec.{eqb}
-use lib.ListN.{length, getD, set, drop, length-drop, drop-of-length-le}
-use lib.Seq.{drop-cons, getD-take, getD-drop}
+use lib.ListN.{length, getD, set, length-drop}
 use borrow.Author.Tests.{eq-eqb, ne-eqb, not-true, not-false}
 use Rattle.jumbled.specs.Match.{Bytes, window}
 use Rattle.jumbled.specs.Scan.{singles, pairs}
@@ -20,14 +19,8 @@ use Rattle.table_packed.proofs.Values.{wordOf, word-lt, word-overflows}
 use Rattle.lent.specs.declared.Range.{Range}
 use Rattle.lent.specs.Loops.{Fitting}
 use Rattle.loop_backward.proofs.Windows.{Going, going-match, going-stop}
+use Rattle.loop_backward.proofs.Leftward.{readFrom, left-more, in-window, byte-is}
 use Rattle.loop_backward.proofs.Reading.{Group, one-byte, two-bytes, leftmost, unit-added, Method, Lawful, scannedBy, Reading, reading-first, reading-fitting, reading-stop, reading-on, reading-end}
-
--- The part from p on of the window at s
-abbrev pub readFrom : ℕ → List ℕ → ℕ → ℕ → List ℕ
-readFrom m T s p = drop (p - s) (window m T s)
-
-window-at : (m : ℕ) (T : List ℕ) (s d : ℕ) → d < m → getD (window m T s) d 0 ≡ getD T (s + d) 0
-window-at m T s d h = getD-take m (drop s T) d 0 h ∙ getD-drop s T d 0
 
 -- What a loop has from its arguments and its method
 pub record Given (P : List ℕ) (M : Method) (packing : Word) (units T : List ℕ) (range : Range) : Type 0 where
@@ -64,12 +57,8 @@ pub record Taken (P : List ℕ) (M : Method) (T : List ℕ) (s₀ p inspections 
 
 module _ {P : List ℕ} {M : Method} {packing : Word} {units T : List ℕ} {range : Range} {before : List ℕ} {s₀ at inspections₀ : ℕ} {after : List ℕ}
     (w : Window P M packing units T range before s₀ at inspections₀ after) where
-  window-upto : s₀ + length P ≤ length T
+  pub window-upto : s₀ + length P ≤ length T
   window-upto = w .given .fitting .whole s₀ (w .inside)
-
-  -- nothing of it is read yet
-  pub read-none : readFrom (length P) T s₀ (s₀ + length P) ≡ []
-  read-none = drop-of-length-le (window (length P) T s₀) {i = s₀ + length P - s₀} (omega (arith, window-whole (length P) T s₀ window-upto))
 
   pub inner-first : Inner P M T s₀ inspections₀ s₀ inspections₀ (packing .start) (s₀ + length P)
   inner-first =
@@ -82,29 +71,15 @@ module _ {P : List ℕ} {M : Method} {packing : Word} {units T : List ℕ} {rang
         inspected = refl;
       }
 
-  -- the byte before p
+  -- the byte before p is added
   module _ (p : ℕ) (more : s₀ < p) (upto : p ≤ s₀ + length P) where
-    left-more : p - s₀ ≡ suc (p - 1 - s₀)
-    left-more = omega arith
-
-    in-window : p - 1 - s₀ < length (window (length P) T s₀)
-    in-window = omega (arith, window-whole (length P) T s₀ window-upto)
-
-    byte-is : getD (window (length P) T s₀) (p - 1 - s₀) 0 ≡ getD T (p - 1) 0
-    byte-is =
-        let place : s₀ + (p - 1 - s₀) ≡ p - 1 = omega arith in
-        window-at (length P) T s₀ (p - 1 - s₀) (omega arith) ∙ ap (λ (i : ℕ). getD T i 0) place
-
-    pub read-more : readFrom (length P) T s₀ (p - 1) ≡ getD T (p - 1) 0 ∷ readFrom (length P) T s₀ p
-    read-more = rw (left-more, ← byte-is) (drop-cons (window (length P) T s₀) (p - 1 - s₀) 0 in-window)
-
-    -- its unit is added
     byte-added : (word : ℕ) → word ≡ wordOf P (M .layout) (readFrom (length P) T s₀ p)
         → word + getD units (getD T (p - 1) 0) 0 ≡ wordOf P (M .layout) (readFrom (length P) T s₀ (p - 1))
     byte-added word e =
-        rw (← byte-is)
-        (unit-added P (M .layout) (w .given .packed) (window (length P) T s₀) (window-bytes (length P) T s₀ (w .given .text)) (p - 1 - s₀) word in-window
-        (rw left-more at e))
+        rw (← byte-is (length P) T s₀ window-upto p more upto)
+        (unit-added P (M .layout) (w .given .packed) (window (length P) T s₀) (window-bytes (length P) T s₀ (w .given .text)) (p - 1 - s₀) word
+        (in-window (length P) T s₀ window-upto p more upto)
+        (rw (left-more (length P) T s₀ window-upto p more upto) at e))
 
   module _ {s inspections word p : ℕ} (inner : Inner P M T s₀ inspections₀ s inspections word p) where
     -- while a step's bytes are added no field carries
@@ -230,5 +205,5 @@ module _ {P : List ℕ} {M : Method} {packing : Word} {units T : List ℕ} {rang
         let none : p - s₀ ≡ 0 = omega (arith, inner .same) in
         let counted : inspections ≡ inspections₀ + length P = omega (arith, inner .inspected, inner .here, inner .same) in
         rw (inner .same, counted)
-        (going-match (w .going) (w .inside) (w .place) (w .given .fitting .short)
+        (going-match (w .going) (w .inside) (w .place) (length P) (omega (arith, w .given .fitting .short))
         (rw (window-whole (length P) T s₀ window-upto) at (reading-end (w .given .lawful) (rw none at (inner .reading)))))

@@ -34,7 +34,7 @@ module _ (scanned : List ℕ → Scanned) (m : ℕ) (T : List ℕ) (range : Rang
       pub full : length before ≤ at → (s ≤ range .end) × (passed range before all ≡ s - range .first)
       pub ordered : range .first ≤ range .end
       pub begun : range .first ≤ s
-      pub counted : inspections ≤ 64 * (s - range .first)
+      pub counted : inspections ≤ 128 * (s - range .first)
 
     pub going-first : range .first ≤ range .end → Going (range .first) (range .at) 0 before
     unfolding backward standing
@@ -98,7 +98,7 @@ module _ {scanned : List ℕ → Scanned} {m : ℕ} {T : List ℕ} {range : Rang
           (standing-at scanned m T s over ∙ rw (e, over-all) past-end)
 
     -- a stop at the byte that stands d places after s
-    pub going-stop : (d windowInspections : ℕ) → windowInspections ≤ 64 → scanned (window m T s) ≡ record { listed = false; offset = d; inspections = windowInspections }
+    pub going-stop : (d windowInspections : ℕ) → windowInspections ≤ 128 → scanned (window m T s) ≡ record { listed = false; offset = d; inspections = windowInspections }
         → Going scanned m T range before (s + d + 1) at (inspections + windowInspections) after
     going-stop d windowInspections few e =
         let w : Scanned = record { listed = false; offset = d; inspections = windowInspections } in
@@ -113,14 +113,14 @@ module _ {scanned : List ℕ → Scanned} {m : ℕ} {T : List ℕ} {range : Rang
         }
 
     -- a match at s
-    pub going-match : m ≤ 64 → scanned (window m T s) ≡ record { listed = true; offset = 0; inspections = m }
-        → Going scanned m T range before (s + 1) (at + 1) (inspections + m) (set after at (range .base + s))
-    going-match few e =
-        let w : Scanned = record { listed = true; offset = 0; inspections = m } in
+    pub going-match : (windowInspections : ℕ) → windowInspections ≤ 128 → scanned (window m T s) ≡ record { listed = true; offset = 0; inspections = windowInspections }
+        → Going scanned m T range before (s + 1) (at + 1) (inspections + windowInspections) (set after at (range .base + s))
+    going-match windowInspections few e =
+        let w : Scanned = record { listed = true; offset = 0; inspections = windowInspections } in
         record {
           listed =
               rw (next w e (s + 1) (omega arith))
-              (listed-more range before (sofar scanned m T range s) (g .listed) s m (omega (arith, g .same-length, g .listed .next-place)));
+              (listed-more range before (sofar scanned m T range s) (g .listed) s windowInspections (omega (arith, g .same-length, g .listed .next-place)));
           stands = next-stands w e (s + 1) (omega arith);
           same-length = length-set after at (range .base + s) ∙ g .same-length;
           full = λ full. (omega arith, last full);

@@ -9,6 +9,7 @@ use Rattle.jumbled.specs.Match.{positions}
 use Rattle.jumbled.specs.Steps.{steps}
 use Rattle.jumbled.specs.Refusals.{given, patternTests, requestTests, programTests}
 use Rattle.jumbled.proofs.Admission.{given-refused, given-later, given-small, request-numbered, program-numbered}
+use Rattle.jumbled.proofs.Never.{never-given, program-not-5}
 use Rattle.program_request.specs.Request.{requestMethod, requestTolerance, requestPattern, requestText, badLine, requestNumber}
 use Rattle.program_request.specs.Parsing.{between}
 use Rattle.program_request.proofs.Answered.{Requested}
@@ -16,6 +17,12 @@ use Rattle.program_lines.specs.Lines.{outputText, refusalText}
 use Rattle.program_report.specs.Output.{requestRefusal, answerText, output}
 
 -- ---- the refusal
+
+-- 5 never comes from method 6 (document 02, T-04)
+pub program-never-5 : (input : List ℕ) → requestMethod input ≡ 6 → requestRefusal input ≡ 5 → ⊥
+unfolding requestRefusal
+program-never-5 input six e =
+    never-given (program-not-5 (requestPattern input) (requestTolerance input) (length input) (badLine input)) (rw six at e)
 
 module _ (input : List ℕ) where
   refusal-early : {n : ℕ} → requestNumber input ≡ suc n → requestRefusal input ≡ suc n

@@ -1,4 +1,5 @@
--- How many inspections a request can take: 64 for the first window of a forward method, and at most 65 for each window start.
+-- How many inspections a request can take: 64 for the first window of a forward method, and at most 128 for each window start, where method 6 reads
+-- it and verifies it.
 use mathlib.Core.Path.{_≡_, refl}
 use mathlib.Core.List.{List}
 use mathlib.Core.Logic.{⊎-elim}
@@ -7,14 +8,15 @@ use native.Mathlib.Omega.{arith}
 use lib.ListN.{length}
 use Rattle.jumbled.specs.Match.{window, starts}
 use Rattle.jumbled.specs.Scan.{Judged, forward}
-use Rattle.jumbled.specs.Steps.{countJudged, hcamJudged, steps}
+use Rattle.jumbled.specs.Steps.{countJudged, hcamJudged, eblScan, steps}
 use Rattle.jumbled.proofs.Admission.{Admitted}
 use Rattle.jumbled.proofs.Cuts.{backward-most, forward-most}
+use Rattle.jumbled.proofs.Ebl.{ebl-most}
 use Rattle.jumbled.proofs.Sums.{below-or-not}
 use Rattle.chunk_backward.specs.Scans.{scanOf}
 use Rattle.chunk_backward.proofs.Scans.{scan-inspections}
 use Rattle.chunk_forward.proofs.Forwards.{hcam-few}
-use Rattle.chunk_search.proofs.Steps.{steps-1, steps-5, steps-backward}
+use Rattle.chunk_search.proofs.Steps.{steps-1, steps-5, steps-6, steps-backward}
 
 -- the first window may cost more than the others
 forward-few : (judged : List ℕ → Judged) (m : ℕ) (T : List ℕ) → ((W : List ℕ) → judged W .verification ≤ 64)
@@ -29,27 +31,38 @@ unfolding countJudged
 count-few P k W = omega arith
 
 module _ (P : List ℕ) (k method : ℕ) (T : List ℕ) (request : Admitted P k method) where
-  by-counting : method ≡ 1 → steps P k method T .inspections ≤ 65 * starts (length P) T + 64
+  by-counting : method ≡ 1 → steps P k method T .inspections ≤ 128 * starts (length P) T + 64
   by-counting e =
       let short = request .short in
       rw (steps-1 P k method T e)
       (omega (arith, forward-few (countJudged P k) (length P) T (count-few P k) 0 (starts (length P) T) (length P)))
 
-  by-values : method ≡ 5 → steps P k method T .inspections ≤ 65 * starts (length P) T + 64
+  by-values : method ≡ 5 → steps P k method T .inspections ≤ 128 * starts (length P) T + 64
   by-values e =
       let short = request .short in
       rw (steps-5 P k method T e)
       (omega (arith, forward-few (hcamJudged P) (length P) T (hcam-few P refl short) 0 (starts (length P) T) (length P)))
 
-  by-scans : 2 ≤ method → method ≤ 4 → steps P k method T .inspections ≤ 65 * starts (length P) T + 64
+  by-scans : 2 ≤ method → method ≤ 4 → steps P k method T .inspections ≤ 128 * starts (length P) T + 64
   by-scans least most =
       rw (steps-backward P k method T least most)
-      (omega (arith, backward-most (scanOf P k method) (length P) T 64 (scan-inspections P k method (request .short)) 0 (starts (length P) T) 0))
+      (omega (arith, backward-most (scanOf P k method) (length P) T 128 (scan-inspections P k method (request .short)) 0 (starts (length P) T) 0))
 
-  pub steps-few : steps P k method T .inspections ≤ 65 * starts (length P) T + 64
+  by-reading : method ≡ 6 → steps P k method T .inspections ≤ 128 * starts (length P) T + 64
+  by-reading e =
+      rw (steps-6 P k method T e)
+      (omega (
+        arith,
+        backward-most (eblScan P) (length P) T 128 (λ W short. omega (arith, ebl-most P W, request .short)) 0 (starts (length P) T) 0,
+      ))
+
+  pub steps-few : steps P k method T .inspections ≤ 128 * starts (length P) T + 64
   steps-few =
       let least = request .taken .least in
       let most = request .taken .most in
       ⊎-elim (λ (l : method < 2). by-counting (omega arith))
-      (λ (l : 2 ≤ method). ⊎-elim (λ (g : method < 5). by-scans l (omega arith)) (λ (g : 5 ≤ method). by-values (omega arith)) (below-or-not method 5))
+      (λ (l : 2 ≤ method).
+      ⊎-elim (λ (g : method < 5). by-scans l (omega arith))
+      (λ (g : 5 ≤ method). ⊎-elim (λ (h : method < 6). by-values (omega arith)) (λ (h : 6 ≤ method). by-reading (omega arith)) (below-or-not method 6))
+      (below-or-not method 5))
       (below-or-not method 2)

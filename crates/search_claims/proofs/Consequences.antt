@@ -361,6 +361,14 @@ as-series (taken-up before-it contract ok loaded) =
       same-reports = past .same-reports;
     }
 
+-- It is handed to another method wherever 3, 4 and 5 of that method allow it
+pub handed-on : {P : List ℕ} {k : ℕ} {s : Search} {text joined : List ℕ} → Chunked P k s text joined
+    → {newMethod : ℕ} {r : SearchResult} → SetsMethod s newMethod r → admissionNumber (r .admission) ≡ given (methodTests P k newMethod)
+handed-on chunked {newMethod} contract =
+    let all = as-series chunked in
+    set-number (all .run) (all .ledger) (all .current) contract
+    ∙ ap₂ (λ (pattern : List ℕ) (n : ℕ). given (methodTests pattern n newMethod)) (all .same-pattern) (all .same-k)
+
 -- The joined lists are the listed positions of the whole text,
 pub chunks-listed : {P : List ℕ} {k : ℕ} {s : Search} {text joined : List ℕ} → Chunked P k s text joined → joined ≡ positions P k text
 chunks-listed {P} {k} {text = text} chunked =

@@ -6,6 +6,7 @@ use Prim.Native.Nat.{ℕ, _≤_, _<_}
 use lib.ListN.{length, take}
 use Rattle.jumbled.specs.Match.{positions}
 use Rattle.jumbled.specs.Steps.{steps}
+use Rattle.jumbled.proofs.Never.{never-given, sheet-not-5}
 use Rattle.lent.specs.Placed.{placed, FirstPlaces}
 use Rattle.lent.proofs.Placing.{first-places}
 use Rattle.answers.specs.Answers.{answerNumber, answerFound, answerInspections, sheetNumber, sheetFound, sheetInspections, sheetLength}
@@ -15,7 +16,7 @@ use Rattle.answers.proofs.Refused.{IsRefused, is-zero, not-zero}
 use Rattle.search_whole.specs.Whole.{wholeNumber, Whole}
 use Rattle.search_whole.proofs.Contract.{whole-accepted}
 use Rattle.sheet_form.specs.Sheet.{sheetOf}
-use Rattle.sheet.specs.Whole.{WholeSheet}
+use Rattle.sheet.specs.Whole.{wholeSheetNumber, WholeSheet}
 use Rattle.sheet.proofs.Answers.{number-whole, number-short, number-none, whole-taken-too}
 
 -- Accepted: the positions stand in the list's first places and their sheet in the buffer's, and every other place of both is as it was
@@ -99,3 +100,10 @@ module _ {P : List ℕ} {k method : ℕ} {T list list′ buffer buffer′ : List
   -- and accepted where it is not
   pub fits-accepted : wholeNumber P k method T list ≡ 0 → length (sheetOf P k T) ≤ length buffer → sheetNumber r ≡ 0
   fits-accepted accepted room = contract .number ∙ number-none P k method T list buffer accepted room
+
+-- 5 never comes from method 6 (document 02, T-04)
+pub sheet-never-5 : {P : List ℕ} {k : ℕ} {T list list′ buffer buffer′ : List ℕ} {r : SheetAnswer} → WholeSheet P k 6 T list list′ buffer buffer′ r
+    → sheetNumber r ≡ 5 → ⊥
+unfolding wholeSheetNumber
+sheet-never-5 {P} {k} {T} {list} {buffer = buffer} contract e =
+    never-given (sheet-not-5 P k (length T) (length list) (length buffer) (length (sheetOf P k T))) (sym (contract .number) ∙ e)

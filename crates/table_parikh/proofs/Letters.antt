@@ -1,15 +1,17 @@
--- How a span grows with the bytes of a pattern.
-use mathlib.Core.Path.{_≡_, refl, _∙_}
+-- How a span grows with the bytes of a pattern, and the table of those that it has.
+use mathlib.Core.Path.{_≡_, refl, sym, ap, _∙_}
+use mathlib.Core.Bool.{Bool, true, false, not}
 use mathlib.Core.List.{List, [], _∷_, _++_}
 use Prim.Native.Nat.{ℕ, suc, _+_, _<_, min, max}
 use native.Mathlib.Numerals.{add-one}
 use native.Mathlib.Omega.{arith}
-use lib.ListN.{length, getD, take}
-use lib.Seq.{take-suc}
-use borrow.Author.Tests.{ne-eqb}
-use Rattle.jumbled.specs.Match.{cc}
-use Rattle.jumbled.proofs.Counts.{cc-nil}
-use Rattle.table_parikh.specs.Letters.{lowest, pastHighest, Spanned}
+use lib.Dec.{eqb}
+use lib.ListN.{length, getD, set, replicate, take, length-replicate, getD-replicate, length-set}
+use lib.Seq.{take-suc, getD-set-same, getD-set-other}
+use borrow.Author.Tests.{ne-eqb, eqb-true, eqb-false}
+use Rattle.jumbled.specs.Match.{cc, occurs}
+use Rattle.jumbled.proofs.Counts.{cc-nil, occurs-some, occurs-none}
+use Rattle.table_parikh.specs.Letters.{lowest, pastHighest, Spanned, Occurring}
 use Rattle.table_parikh.specs.declared.Span.{Span}
 use Rattle.table_parikh.proofs.Parikh.{cc-snoc}
 
@@ -44,3 +46,28 @@ spanned-more {U} s b wider byte low past =
 
 pub take-more : (U : List ℕ) (i : ℕ) → i < length U → take i U ++ (getD U i 0 ∷ []) ≡ take (i + 1) U
 take-more U i l = rw (add-one i, take-suc U i 0 l) refl
+
+-- no byte occurs in no bytes
+pub occurring-none : Occurring [] (replicate 256 false)
+occurring-none =
+    record {
+      sized = length-replicate 256 false;
+      tells = λ c l. getD-replicate 256 c false false l ∙ sym (occurs-none [] c (cc-nil c));
+    }
+
+-- one byte more occurs
+pub occurring-more : {U : List ℕ} {table : List Bool} → Occurring U table → (b : ℕ) → b < 256 → Occurring (U ++ (b ∷ [])) (set table b true)
+unfolding occurs
+occurring-more {U} {table} o b byte = record { sized = length-set table b true ∙ o .sized; tells = λ c l. at c l (eqb b c) refl }
+  where
+    at : (c : ℕ) → c < 256 → (t : Bool) → eqb b c ≡ t → getD (set table b true) c false ≡ occurs (U ++ (b ∷ [])) c
+    at c l true e =
+        let same : b ≡ c = eqb-true b c e in
+        rw same (getD-set-same table c true false (omega (arith, o .sized)))
+        ∙ sym (occurs-some (U ++ (b ∷ [])) c (rw (cc-snoc U b c, e) (omega arith)))
+    at c l false e =
+        getD-set-other table b c true false (λ q. eqb-false b c e (sym q)) ∙ o .tells c l
+        ∙ ap (λ (n : ℕ). not (eqb n 0)) kept
+      where
+        kept : cc U c ≡ cc (U ++ (b ∷ [])) c
+        kept = rw (cc-snoc U b c, e) (omega arith)

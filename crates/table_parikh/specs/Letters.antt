@@ -1,8 +1,10 @@
 -- Which bytes a pattern can have.
 use mathlib.Core.Path.{_≡_}
+use mathlib.Core.Bool.{Bool, false}
 use mathlib.Core.List.{List, [], _∷_}
 use Prim.Native.Nat.{ℕ, suc, _≤_, _<_, min, max}
-use Rattle.jumbled.specs.Match.{cc}
+use lib.ListN.{length, getD}
+use Rattle.jumbled.specs.Match.{cc, occurs}
 use Rattle.table_parikh.specs.declared.Span.{Span}
 
 -- The smallest byte of P, 256 where P has none
@@ -22,3 +24,8 @@ pub record Spanned (P : List ℕ) (r : Span) : Type 0 where
   pub bytes : r .past ≤ 256
   pub below : (c : ℕ) → c < r .low → cc P c ≡ 0
   pub above : (c : ℕ) → r .past ≤ c → cc P c ≡ 0
+
+-- A table of 256 truth values that says of each byte whether P has it
+pub record Occurring (P : List ℕ) (table : List Bool) : Type 0 where
+  pub sized : length table ≡ 256
+  pub tells : (c : ℕ) → c < 256 → getD table c false ≡ occurs P c

@@ -3,7 +3,7 @@ ghost use mathlib.Core.Path.{_≡_};
 ghost use Prim.Native.Nat.{_≤_};
 ghost use lib.ListN.{length};
 ghost use Rattle.table_parikh.specs.Table.{parikh, withinCounts};
-ghost use Rattle.table_parikh.specs.Letters.{Spanned};
+ghost use Rattle.table_parikh.specs.Letters.{Spanned, Occurring};
 
 // How often each byte occurs in a pattern or a window: document 01, "What a match is", cc(U, c). No counter passes 64, so a byte holds each.
 pub fn counts(s: &[u8]) -> [u8; 256]
@@ -42,6 +42,18 @@ pub fn span_of(pattern: &[u8]) -> Span
         }
     }
     Span { low, past }
+}
+
+// Which bytes the pattern has.
+pub fn occurring(pattern: &[u8]) -> [bool; 256]
+    ensures { λ r. ⌜ Occurring (now (pattern .entry)) r ⌝ }
+{
+    let mut occurs = [false; 256];
+    for i in 0..pattern.len() {
+        let byte = pattern[i] as usize;
+        occurs[byte] = true;
+    }
+    occurs
 }
 
 // Whether no byte occurs in the window more often than the counts allow. The first byte too many ends it.

@@ -11,7 +11,8 @@ use Rattle.jumbled.specs.Steps.{abamScan}
 use Rattle.loop_backward.specs.Ranges.{ScannableByTops}
 use Rattle.loop_backward.proofs.Windows.{Going, going-first, going-end}
 use Rattle.loop_backward.proofs.Reading.{scannedBy}
-use Rattle.loop_backward.proofs.Scanning.{Given, Window, Taken, readFrom, inner-upto, single-group, single-taken, taken-word, inner-on, inner-stop, inner-end}
+use Rattle.loop_backward.proofs.Leftward.{readFrom}
+use Rattle.loop_backward.proofs.Scanning.{Given, Window, Taken, inner-upto, single-group, single-taken, taken-word, inner-on, inner-stop, inner-end}
 use Rattle.loop_backward.proofs.Errors.{ErrorsCounted, counting-first, counting-few, error-found, error-none}
 use Rattle.loop_backward.proofs.Methods.{abamMethod, abam-given}
 use Rattle.loop_abam.proofs.abam.Statement.{statement}
