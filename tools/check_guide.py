@@ -5,7 +5,8 @@
     python3 tools/check_guide.py --write    first brings printed definitions and the rows of edits up to date
 
 A definition printed after "From `FILE`:" is that of the file, without the words that say who may use it. Every name in it is printed
-in the guide too, or stands in the tables of signs, or is bound where it stands. Every law named exists, and every must-fail edit has its row.
+in the guide too, or stands in the tables of signs, or is bound where it stands. Every name that is printed is explained, every name that the
+prose has is one of the repository, and every must-fail edit has its row.
 """
 
 import difflib
@@ -19,6 +20,15 @@ EDITS = ROOT / "docs" / "MUST-FAIL.md"
 BLOCK = re.compile(r"(From `([^`]+)`:\n```\w+\n)(.*?)(?=\n```)", re.S)
 HEAD = re.compile(r"(?:record|data|struct|enum|fn) ([^\s({]+)|(\S+) :(?: |$)", re.M)
 MEMBER = re.compile(r"^ {2}(?: {2})?(\w[^\s:({,]*)", re.M)
+CODE = re.compile(r"^```.*?^```$", re.S | re.M)
+SPAN = re.compile(r"`([^`\n]+)`")
+# where the guide says what a name is: a cell of a table, an item or a clause begins with it, or with several in a row
+TOLD = re.compile(r"(?:^|\| |[.;:] |- |\*\* )((?:`[^`\n]+`(?:, (?=`)| and (?=`))?)+)", re.M)
+WORD = re.compile(r"\w+(?:-\w+)*")
+# what looks like a name of the repository; a record of examples may have lost hours, but no letters beyond these
+NAME = re.compile(r"(?![abcxyzXY-]+$)(?:[a-z]+[A-Z]\w*|[A-Z][a-z]\w+|\w+(?:[-_]\w+)+)")
+# words of the line that a check of proofs prints (section 7)
+PRINTED = {"not-proved", "logic-built", "libraries-built"}
 
 
 def without_comments(text):
@@ -42,6 +52,21 @@ def name_of(item):
     return (head.group(1) or head.group(2)) if head else None
 
 
+def printed_in(text):
+    """Every definition that the text prints, with its file."""
+    return [(ROOT / file, item) for _, file, block in BLOCK.findall(text) for item in printed_items(block)]
+
+
+def named_in(text):
+    """The words that stand in backticks outside of code blocks."""
+    return {word for span in SPAN.findall(CODE.sub("", text)) for word in WORD.findall(span)}
+
+
+def is_law(path, first_line):
+    """Whether a definition is a law: in proofs/ all but records, cases and, since they define a claim, those that yield a type."""
+    return "proofs" in path.parts and not first_line.startswith(("record ", "data ")) and not first_line.endswith("Type 0")
+
+
 def items(path):
     """Each definition of a file by its name, as the guide prints it: a law's statement, a function's first lines, all of any other."""
     found = {}
@@ -54,7 +79,7 @@ def items(path):
         name = name_of(lines[0]) if lines else None
         if name is None:
             continue
-        law = "proofs" in path.parts and not lines[0].startswith(("record ", "data "))
+        law = is_law(path, lines[0])
         kept = lines[:1]
         for line in lines[1:]:
             if line == "{" or law and line.startswith((name + " ", "unfolding ")):
@@ -103,12 +128,12 @@ def refreshed(text, problems):
 
 
 def unexplained(text):
-    """What stands in a printed definition and is neither printed, nor a sign, nor bound; and laws that do not exist."""
+    """What stands in a printed definition and is neither printed, nor a sign, nor bound."""
     signs = text[text.index("\n## A. ") : text.index("\n## B. ")]
     known = set()
     for cell in re.findall(r"^\| (`.*?) \|", signs.replace("\\|", "¦"), re.M):
         known |= words(" ".join(re.findall(r"`([^`]+)`", cell)).replace("¦", "|"))
-    printed = [(ROOT / name, item) for _, name, block in BLOCK.findall(text) for item in printed_items(block)]
+    printed = printed_in(text)
     for _, item in printed:
         known |= members(item) | {name_of(item)}
     problems = []
@@ -116,11 +141,59 @@ def unexplained(text):
         for word in sorted(words(without_comments(item)) - known - bound(without_comments(item), path)):
             if not word.isdigit():
                 problems.append(f"{path.relative_to(ROOT)}, {name_of(item)}: {word} is not explained")
-    repository = "\n".join(path.read_text() for path in sorted(ROOT.glob("crates/*/*/**/*.antt")))
-    for law in sorted(set(re.findall(r"`([a-z]+(?:-[a-z]+)+)`", text))):
-        if not re.search(rf"(?<![\w-]){law}(?![\w-])", repository):
-            problems.append(f"no such law: {law}")
     return len(printed), problems
+
+
+def untold(text):
+    """Printed names that the guide does not explain. A law may be named where its sentence ends; of any other name it is said what it is."""
+    named = named_in(text)
+    told = {span.split(" ")[0] for run in TOLD.findall(CODE.sub("", text)) for span in SPAN.findall(run)}
+    problems = []
+    for path, item in printed_in(text):
+        name = name_of(item)
+        if name not in (named if is_law(path, item.split("\n")[0]) else told):
+            where = "no cell, item or clause begins with it" if name in named else "the prose does not name it"
+            problems.append(f"{path.relative_to(ROOT)}: {name} is printed and not explained ({where})")
+    return problems
+
+
+def untold_above(text):
+    """Names that the promises of sections 1 to 7 are made of and that these do not name: they are to be understood without the appendices."""
+    above = text[: text.index("\n## A. ")]
+    names = {name_of(item) for _, item in printed_in(text)}
+    problems = []
+    for _, item in printed_in(above):
+        # without the parts taken of a thing, which may be called as a definition is
+        used = words(re.sub(r" \.\S+", "", without_comments(item))) & names
+        for name in sorted(used - named_in(above) - {name_of(item)}):
+            # `openNumber` is explained for all of its kind, and that r and s are what calls hand back and are handed, for all types
+            if not name.endswith("Number") and not name[0].isupper():
+                problems.append(f"sections 1 to 7, {name_of(item)}: {name} is not named there")
+    return problems
+
+
+def words_there():
+    """The words that the prose may have as names: those of sources and tools, and the names of crates, edits and files."""
+    found = PRINTED | {path.name for path in ROOT.glob("crates/*")}
+    for path in [*ROOT.glob("crates/*/*/**/*.*"), *ROOT.glob("tools/*.py"), *ROOT.glob("docs/*.md")]:
+        found.add(path.stem)
+        # not this file: what it excepts would be there by being excepted
+        if path.suffix in (".antt", ".rt", ".py") and path != pathlib.Path(__file__).resolve():
+            found.update(WORD.findall(path.read_text()))
+    return found
+
+
+def unknown(text):
+    """Names in the prose that the repository has not, with the lines where they stand. Code blocks are compared with it elsewhere."""
+    there = words_there()
+    # a block's lines stay, empty, so that the numbers of later lines are right
+    prose = CODE.sub(lambda block: "\n" * block.group().count("\n"), text)
+    problems = []
+    for number, line in enumerate(prose.split("\n"), 1):
+        for word in sorted({word for span in SPAN.findall(line) for word in WORD.findall(span)} - there):
+            if NAME.fullmatch(word):
+                problems.append(f"line {number}: no such name: {word}")
+    return problems
 
 
 def rows_of_edits():
@@ -146,7 +219,7 @@ def main():
     for old, new in ((guide, new_guide), (edits, new_edits)):
         problems += difflib.unified_diff(old.split("\n"), new.split("\n"), "docs", "repository", "", "", 0, "")
     count, others = unexplained(guide)
-    problems += others
+    problems += others + untold(guide) + untold_above(guide) + unknown(guide)
     there = {f"{crate}/{edit}" for crate, edit in re.findall(r"^\| `(\w+)` \| `(\w+)` \|", "".join(rows), re.M)}
     problems += [f"no such edit: {name}" for name in sorted(set(re.findall(r"`(\w+/\w+)`", edits)) - there)]
     print("\n".join(problems + [f"{count} definitions, {len(rows)} edits, {len(problems)} problems"]))

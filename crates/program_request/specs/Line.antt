@@ -56,7 +56,7 @@ toleranceField line = beforeFirst space (afterFirst space line)
 unfoldable pub patternField : List ℕ → List ℕ
 patternField line = afterFirst space (afterFirst space line)
 
--- The line has the form asked for. Any digit passes as a method here: 0 and 6 to 9 are refused with 3.
+-- The line has the form asked for. Any digit passes as a method here: 0 and 7 to 9 are refused with 3.
 unfoldable pub goodLine : List ℕ → Bool
 goodLine line =
     has space line

@@ -2,7 +2,7 @@
 ghost use mathlib.Core.Path.{_≡_};
 ghost use mathlib.Core.List.{List, _++_};
 ghost use Prim.Native.Nat.{ℕ, _<_};
-ghost use lib.ListN.{length};
+ghost use lib.ListN.{length, replicate};
 ghost use Rattle.search.specs.Calls.{Feeds, Saves};
 ghost use Rattle.search_whole.specs.Whole.{Whole};
 ghost use Rattle.several.specs.Whole.{WholeSeveral};
@@ -19,6 +19,7 @@ use from_answers::admitted;
 use from_answers::answered;
 use from_answers::marked;
 use from_answers::saved;
+use program_report::OUTPUT_ROOM;
 use search::FeedResult;
 use search::SaveResult;
 use search::Search;
@@ -43,9 +44,6 @@ use tests_stream::patterns::read_lengths;
 
 // The longest buffer of a save.
 const LONGEST_IMAGE: usize = 512;
-
-// The room that mixlist's function asks for.
-const REPORT_ROOM: usize = 98560;
 
 // What a call came to, and the search that it left.
 pub struct Called {
@@ -191,10 +189,10 @@ fn marked_into(
 }
 
 // A buffer for every output of mixlist's function.
-fn report_room() -> [u8; REPORT_ROOM]
-    ensures { λ r. ⌜ 98560 ≡ length r ⌝ }
+fn report_room() -> [u8; OUTPUT_ROOM]
+    ensures { λ r. ⌜ (r ≡ replicate 98560 0) × (98560 ≡ length r) ⌝ }
 {
-    [0; REPORT_ROOM]
+    [0; OUTPUT_ROOM]
 }
 
 // The length of the output, and the digest of that.

@@ -4,7 +4,7 @@
 
 ghost use mathlib.Core.Path.{_≡_};
 ghost use Prim.Native.Nat.{_≤_};
-ghost use lib.ListN.{length};
+ghost use lib.ListN.{length, replicate};
 ghost use Rattle.image_form.specs.Decode.{fromLowFirst};
 ghost use Rattle.tests_stream.specs.Fillings.{Filled, knownPlace, knownByte, letterIndex, letterAt, madeLength};
 ghost use Rattle.tests_stream.specs.Reading.{PartWithin, partAt, numberAt};
@@ -16,9 +16,9 @@ pub mod patterns;
 // The longest list that a call is lent.
 const LONGEST_LIST: usize = 65537;
 
-// Room for it. Its length comes by a law, since the prover would count the places one by one.
+// Room for it, every place 0. Its length is said besides, by a law: the prover would count the places one by one.
 pub fn list_room() -> [u32; LONGEST_LIST]
-    ensures { λ r. ⌜ 65537 ≡ length r ⌝ }
+    ensures { λ r. ⌜ (r ≡ replicate 65537 0) × (65537 ≡ length r) ⌝ }
 {
     [0; LONGEST_LIST]
 }
@@ -26,9 +26,9 @@ pub fn list_room() -> [u32; LONGEST_LIST]
 // The longest text, and the longest buffer of a sheet.
 const LONGEST_BYTES: usize = 65537;
 
-// Room for either, whose length comes likewise.
+// Room for either, said likewise.
 pub fn byte_room() -> [u8; LONGEST_BYTES]
-    ensures { λ r. ⌜ 65537 ≡ length r ⌝ }
+    ensures { λ r. ⌜ (r ≡ replicate 65537 0) × (65537 ≡ length r) ⌝ }
 {
     [0; LONGEST_BYTES]
 }

@@ -2,7 +2,7 @@
 // stream is laid out, and tools/make_vectors.py makes it.
 ghost use mathlib.Core.Path.{_≡_};
 ghost use Prim.Native.Nat.{_+_, _^_, _≤_, _<_};
-ghost use lib.ListN.{length};
+ghost use lib.ListN.{length, replicate};
 ghost use Rattle.vectors.specs.Runs.{CaseRun, tallied, TallyOf};
 use libc::STDIN_FILENO;
 use search::Search;
@@ -118,7 +118,7 @@ fn run(stream: &[u8]) -> Tally
 
 // Room for the longest stream. Its length comes by a law, since the prover would count the bytes one by one.
 fn stream_room() -> [u8; LONGEST_STREAM]
-    ensures { λ r. ⌜ 786432 ≡ length r ⌝ }
+    ensures { λ r. ⌜ (r ≡ replicate 786432 0) × (786432 ≡ length r) ⌝ }
 {
     [0; LONGEST_STREAM]
 }

@@ -1,12 +1,12 @@
 -- `tests_stream::list_room` meets its contract, by the law on repeats: nothing is counted.
-use mathlib.Core.Path.{sym}
+use mathlib.Core.Path.{refl, sym, ap}
 use Prim.Native.Nat.{ℕ}
-use lib.ListN.{length-replicate}
+use lib.ListN.{replicate, length-replicate}
 use Rattle.tests_stream.proofs.list_room.Statement.{statement}
 use Rattle.tests_stream.proofs.list_room.Tie as tie
 
 returns : tie.Need-returns
-returns c = sym (length-replicate {A = ℕ} 65537 0)
+returns c = (ap (replicate {A = ℕ} 65537) refl, sym (length-replicate {A = ℕ} 65537 0))
 
 pub list-room-spec : {M : Type 1} → statement M
 list-room-spec = tie.close (tie.spec returns)
