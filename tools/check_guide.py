@@ -2,11 +2,12 @@
 """Compares docs/EXAMINERS.md and docs/MUST-FAIL.md with the repository.
 
     python3 tools/check_guide.py            says what differs; exit status 1 where something does
-    python3 tools/check_guide.py --write    first brings printed definitions and the rows of edits up to date
+    python3 tools/check_guide.py --write    first brings printed definitions, the card and the rows of edits up to date
 
 A definition printed after "From `FILE`:" is that of the file, without the words that say who may use it. Every name in it is printed
 in the guide too, or stands in the tables of signs, or is bound where it stands. Every name that is printed is explained, every name that the
-prose has is one of the repository, and every must-fail edit has its row.
+prose has is one of the repository. The card of widths has the entries of the code's table, in which each stands beside its place. Every
+must-fail edit has its row.
 """
 
 import difflib
@@ -17,6 +18,8 @@ import sys
 ROOT = pathlib.Path(__file__).resolve().parent.parent
 GUIDE = ROOT / "docs" / "EXAMINERS.md"
 EDITS = ROOT / "docs" / "MUST-FAIL.md"
+TABLE = ROOT / "crates" / "table_widths" / "src" / "lib.rt"
+CARD = re.compile(r"(\| v \| \+ 0 \|.*\n\|[-|]+\n)((?:\|.*\n)*)")
 BLOCK = re.compile(r"(From `([^`]+)`:\n```\w+\n)(.*?)(?=\n```)", re.S)
 HEAD = re.compile(r"(?:record|data|struct|enum|fn) ([^\s({]+)|(\S+) :(?: |$)", re.M)
 MEMBER = re.compile(r"^ {2}(?: {2})?(\w[^\s:({,]*)", re.M)
@@ -127,6 +130,18 @@ def refreshed(text, problems):
     return BLOCK.sub(block, text)
 
 
+def card_rows(problems):
+    """The code's table of widths, eight entries to a row behind the number of the first."""
+    entries = re.findall(r"^    (\d+), // (\d+)$", TABLE.read_text(), re.M)
+    if [int(v) for _, v in entries] != list(range(65)):
+        problems.append("the table of widths: an entry does not stand beside its place")
+    rows = ""
+    for first in range(0, len(entries), 8):
+        cells = [e for e, _ in entries[first : first + 8]]
+        rows += "| " + " | ".join([str(first)] + cells + [""] * (8 - len(cells))) + " |\n"
+    return rows
+
+
 def unexplained(text):
     """What stands in a printed definition and is neither printed, nor a sign, nor bound."""
     signs = text[text.index("\n## A. ") : text.index("\n## B. ")]
@@ -210,7 +225,9 @@ def main():
     problems = []
     guide, edits = GUIDE.read_text(), EDITS.read_text()
     rows = rows_of_edits()
-    new_guide = refreshed(guide, problems)
+    new_guide = CARD.sub(lambda match: match.group(1) + card_rows(problems), refreshed(guide, problems))
+    if not CARD.search(guide):
+        problems.append("the guide has no card of widths")
     new_edits = re.sub(r"(?m)(?:^\| `\w+` \| `\w+` \| .*\|\n)+", lambda _: "".join(rows), edits, count=1)
     if sys.argv[1:] == ["--write"]:
         GUIDE.write_text(new_guide)

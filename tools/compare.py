@@ -151,8 +151,12 @@ def check_widths(tally):
             ref.whole_search(pattern, 0, 5, text, places),
             (0, 2, 64 + (0 if exact else 2 * 63)),
         )
-    for v, e in ((0, 0), (1, 0), (2, 1), (3, 2), (4, 2), (5, 3), (63, 6), (64, 6)):
-        tally.same("lg(%d)" % v, ref.lg(v), e)
+    # Each lg with the first and the last v that has it.
+    for first, last, e in (
+        (0, 1, 0), (2, 2, 1), (3, 4, 2), (5, 8, 3), (9, 16, 4), (17, 32, 5), (33, 64, 6),
+    ):
+        for v in range(first, last + 1):
+            tally.same("lg(%d)" % v, ref.lg(v), e)
     # Each width with the fewest and the most of a letter that it is for.
     for least, most, g in (
         (1, 1, 2), (2, 3, 3), (4, 7, 4), (8, 15, 5), (16, 31, 6), (32, 63, 7), (64, 64, 8),

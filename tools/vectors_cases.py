@@ -1619,6 +1619,37 @@ def series_with_method_6(stream, rng):
         Series(stream, rng, METHODS + (6, 6)).run(rng.randrange(8, 36))
 
 
+# --- Widths by table (document 02, T-05) -----------------------------------------------------
+
+
+def each_entry(stream, rng):
+    """Every v from 0 to 64 as what the card is asked for: in method 4 as k and as a
+    letter's count, in methods 2 and 3 as the number after a letter's count."""
+    for v in range(65):
+        if v < 64:
+            stream.width(repeated(64, letters(32)), v, 4)
+        if v > 0:
+            stream.width(repeated(v, b"a"), 0, 4)
+        for method in (2, 3) if v > 1 else ():
+            stream.width(repeated(v - 1, b"a"), 0, method)
+
+
+def sides_of_each_entry(stream, rng):
+    """For every k as many letters as method 4 has fields for, and one letter more.
+    All fields have the width that goes by k, so that these two numbers tell it."""
+    for k in range(64):
+        width = ref.lg(k) + 2
+        most = 64 // width - 1
+        for q in (most, most + 1):
+            pattern = repeated(max(q, k + 1), letters(q))
+            assert ref.bits_needed(pattern.value, k, 4) == (q + 1) * width
+            text = with_errors(rng, pattern.value, k) + letters(1)
+            stream.whole(pattern, k, 4, text if q == most else letters(2))
+            stream.open(pattern, k, 1)
+            stream.set_method(4)
+            stream.open(pattern, k, 4)
+
+
 # --- All of them ----------------------------------------------------------------------------
 
 FAMILIES = (
@@ -1699,4 +1730,6 @@ FAMILIES = (
     made_of_known_letters,
     inputs_of_method_6,
     series_with_method_6,
+    each_entry,
+    sides_of_each_entry,
 )

@@ -247,9 +247,13 @@ class VectorCoverage(Coverage):
         """How many bits the fields of a case need, and what it made of that."""
         bits = ref.bits_needed(pattern, k, method)
         self.fields.add((NAMES[op], "method", method, "bits", bits, "number", number))
-        if op == WIDTH:
-            return
         often = {pattern.count(c) for c in pattern}
+        if op == WIDTH:
+            asked = {k} | {max(v, k) for v in often} if method == 4 else {v + 1 for v in often}
+            self.fields.update(("the card, by method", method, "at", v) for v in asked)
+            return
+        if method == 4 and max(often) <= max(k, 1):
+            self.fields.add((NAMES[op], "k", k, "letters", len(set(pattern)), "number", number))
         if often == {3}:
             self.fields.add((NAMES[op], "letters thrice", len(pattern) // 3, method, number))
         for v in often:
@@ -555,7 +559,8 @@ class VectorCoverage(Coverage):
     def wanted_fields(self):
         """Both sides of number 5 by every call, also with 21 letters thrice; each
         count beside a width's edge in windows that match and in windows with one
-        more, and at both sides of number 5 where 64 readings have room for that."""
+        more, and at both sides of number 5 where 64 readings have room for that; every
+        entry of the card, and by every k the most letters of method 4 and one more."""
         for op in MEASURING:
             for method in (2, 3, 4):
                 for bits, number in ((64, 0), (65, 5)):
@@ -565,6 +570,14 @@ class VectorCoverage(Coverage):
         for method in (2, 3, 4):
             for bits in (64, 65):
                 yield NAMES[WIDTH], "method", method, "bits", bits, "number", 0
+        for v in range(65):
+            for method in (4,) if v < 2 else (2, 3, 4):
+                yield "the card, by method", method, "at", v
+        for k in range(64):
+            for op in (WHOLE, OPEN, SET_METHOD):
+                most = 64 // (ref.lg(k) + 2) - 1
+                yield NAMES[op], "k", k, "letters", most, "number", 0
+                yield NAMES[op], "k", k, "letters", most + 1, "number", 5
         for v in (1, 2, 3, 4, 5, 7, 8, 15, 16, 31, 32, 63, 64):
             for method in (2, 3):
                 for excess in (0, 1) if v < 64 else (0,):

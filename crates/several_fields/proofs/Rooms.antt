@@ -13,7 +13,7 @@ use Rattle.jumbled.specs.Match.{bit, cc, usedUp}
 use Rattle.jumbled.proofs.Counts.{cc-cons, cc-turned, cc-length, used-up, not-used-up, excess-length, bytes-cons}
 use Rattle.jumbled.proofs.Sums.{below-or-not}
 use Rattle.table_parikh.specs.Table.{tabulate}
-use Rattle.table_parikh.proofs.Tables.{getD-tabulate, tabulate-set, tabulate-ext}
+use Rattle.table_parikh.proofs.Tables.{getD-tabulate, tabulated, tabulate-set, tabulate-ext}
 use Rattle.table_packed.proofs.Packs.{pack-add, pack-ext}
 use Rattle.several_form.specs.Mcount.{topValue, acceptable, fieldAfter}
 use Rattle.several_form.proofs.Fields.{field-entered, field-given-back}
@@ -118,7 +118,7 @@ module _ {fields : Fields} {word byte : ℕ} {rooms : List ℕ} (ready : Taking 
   more = U ++ (byte ∷ [])
 
   room-is : getD rooms byte 0 ≡ roomWord (ready .of) U byte
-  room-is = ap (λ (l : List ℕ). getD l byte 0) (ready .words .byte-words) ∙ getD-tabulate 256 (roomWord (ready .of) U) byte is-byte
+  room-is = tabulated 256 (roomWord (ready .of) U) (ready .words .byte-words) byte is-byte
 
   abbrev accepted : ℕ
   accepted = bitAnd (getD rooms byte 0) (fields .tops) / 2 ^ 7
@@ -158,7 +158,7 @@ module _ {fields : Fields} {word byte : ℕ} {rooms : List ℕ} (ready : Giving 
   W = ready .staying
 
   room-was : getD rooms byte 0 ≡ roomWord (ready .of) (byte ∷ W) byte
-  room-was = ap (λ (l : List ℕ). getD l byte 0) (ready .words .byte-words) ∙ getD-tabulate 256 (roomWord (ready .of) (byte ∷ W)) byte is-byte
+  room-was = tabulated 256 (roomWord (ready .of) (byte ∷ W)) (ready .words .byte-words) byte is-byte
 
   room-back : getD rooms byte 0 + fields .ones ≡ roomWord (ready .of) W byte
   room-back = omega (arith, room-was, word-less (ready .of) W byte (ready .short), ones-below (ready .of) W byte (ready .short))

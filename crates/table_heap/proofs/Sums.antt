@@ -10,7 +10,7 @@ use Rattle.jumbled.specs.Match.{Bytes}
 use Rattle.jumbled.specs.Heap.{heapValue, heapSum}
 use Rattle.jumbled.proofs.Counts.{bytes-head, bytes-tail}
 use Rattle.table_parikh.specs.Table.{tabulate}
-use Rattle.table_parikh.proofs.Tables.{getD-tabulate}
+use Rattle.table_parikh.proofs.Tables.{tabulated}
 use Rattle.table_heap.specs.Table.{wrappedSum, tableSum}
 
 module _ (value : ℕ → ℕ) where
@@ -43,7 +43,7 @@ heap-sum P (b ∷ U) = ap (λ (n : ℕ). (heapValue P b + n) % 2 ^ 64) (heap-sum
 
 module _ (P : List ℕ) {values : List ℕ} (known : values ≡ tabulate 256 (heapValue P)) where
   value-at : {b : ℕ} → b < 256 → getD values b 0 ≡ heapValue P b
-  value-at {b} byte = rw known (getD-tabulate 256 (heapValue P) b byte)
+  value-at {b} byte = tabulated 256 (heapValue P) known b byte
 
   -- the same by their table
   pub table-sum : (U : List ℕ) → Bytes U → tableSum values U ≡ heapSum P U

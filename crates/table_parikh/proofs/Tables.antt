@@ -29,6 +29,10 @@ getD-tabulate (suc n) f i l =
     let same : i ≡ n = omega arith in
     getD-at (tabulate n f) (f n) [] 0 i (length-tabulate n f ∙ sym same) ∙ ap f (sym same)) (below-or-not i n)
 
+-- so a table of constants obeys a rule at each entry where it passes one test, which the checker computes over the whole of it
+pub tabulated : {table : List ℕ} (n : ℕ) (f : ℕ → ℕ) → table ≡ tabulate n f → (i : ℕ) → i < n → getD table i 0 ≡ f i
+tabulated n f test i l = ap (λ (t : List ℕ). getD t i 0) test ∙ getD-tabulate n f i l
+
 -- a list of n entries that are f's
 pub is-tabulate : (n : ℕ) (f : ℕ → ℕ) (l : List ℕ) → length l ≡ n → ((i : ℕ) → i < n → getD l i 0 ≡ f i) → l ≡ tabulate n f
 is-tabulate n f l e h =

@@ -5,33 +5,23 @@ use mathlib.Core.Bool.{Bool, true, false, cond}
 use mathlib.Core.List.{List}
 use lib.ListN.{length, getD}
 use lib.Dec.{eqb, lit≤}
-use Prim.Native.Nat.{ℕ, zero, suc, _+_, _*_, _^_, _≤_, _<_, max}
-use native.Mathlib.Nat.{le-antisymm, max-le}
+use Prim.Native.Nat.{ℕ, zero, suc, _+_, _*_, _≤_, _<_, max}
+use native.Mathlib.Nat.{max-le}
 use native.Mathlib.Omega.{arith}
-use lib.Pow.{pow-pos, pow-mono}
 use borrow.Author.Tests.{ne-eqb}
 use Rattle.jumbled.specs.Fields.{lg, letterWidth, Layout, bamLayout, bam2Layout, abamLayout, noLayout, layoutOf, widthOf, bits}
 use Rattle.jumbled.specs.Match.{cc, sum}
 use Rattle.jumbled.proofs.Sums.{below-or-not, sum-suc, sum-zeros}
 use Rattle.jumbled.proofs.Counts.{cc-length}
 use Rattle.table_parikh.specs.Table.{parikh}
-use Rattle.table_parikh.proofs.Parikh.{getD-parikh}
-use Rattle.jumbled.proofs.Lg.{lg-enough, lg-least, bam-letters}
+use Rattle.table_parikh.proofs.Tables.{tabulated}
+use Rattle.jumbled.proofs.Lg.{lg-least, bam-letters}
 use Rattle.jumbled.proofs.Overflow.{Roomy, bam-roomy, bam2-roomy, abam-roomy, width-shared}
 
 -- ---- lg
 
 pub lg-le : (v : ℕ) → v ≤ 64 → lg v ≤ 6
 lg-le v h = lg-least v 6 (omega arith)
-
--- while 2^e is below v, lg(v) is above e
-pub lg-more : (v e : ℕ) → 2 ^ e < v → e < lg v
-lg-more v e h =
-    ⊎-elim (λ (l : e < lg v). l) (λ (l : lg v ≤ e). let p = pow-mono l in omega (arith, lg-enough v)) (below-or-not e (lg v))
-
--- and where it is not, lg(v) has been reached
-pub lg-reached : (v e : ℕ) → v ≤ 2 ^ e → e ≤ lg v → e ≡ lg v
-lg-reached v e h l = le-antisymm l (lg-least v e (omega (arith, pow-pos e)))
 
 -- a letter's width is at most 8 bits
 pub letter-le : (v : ℕ) → v ≤ 64 → letterWidth v ≤ 8
@@ -106,7 +96,8 @@ layout-roomy k method l h =
 
 -- a counter is how often the pattern has the byte
 pub count-is : (P counts : List ℕ) (c : ℕ) → counts ≡ parikh P → c < 256 → getD counts c 0 ≡ cc P c
-count-is P counts c e l = ap (λ (t : List ℕ). getD t c 0) e ∙ getD-parikh P c l
+unfolding parikh
+count-is P counts c e l = tabulated 256 (cc P) e c l
 
 width-most : (P : List ℕ) (L : Layout) (f : ℕ) → length P ≤ 64 → Narrow L → widthOf P L f ≤ 8
 unfolding widthOf

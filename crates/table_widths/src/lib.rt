@@ -9,18 +9,81 @@ ghost use Rattle.table_parikh.specs.Table.{parikh};
 ghost use Rattle.table_widths.specs.Counted.{PatternCounted};
 use table_parikh::Span;
 
+// lg(v) for v from 0 to 64, each beside its v, as on the printed card: document 02, T-05.
+const LG: [u8; 65] = [
+    0, // 0
+    0, // 1
+    1, // 2
+    2, // 3
+    2, // 4
+    3, // 5
+    3, // 6
+    3, // 7
+    3, // 8
+    4, // 9
+    4, // 10
+    4, // 11
+    4, // 12
+    4, // 13
+    4, // 14
+    4, // 15
+    4, // 16
+    5, // 17
+    5, // 18
+    5, // 19
+    5, // 20
+    5, // 21
+    5, // 22
+    5, // 23
+    5, // 24
+    5, // 25
+    5, // 26
+    5, // 27
+    5, // 28
+    5, // 29
+    5, // 30
+    5, // 31
+    5, // 32
+    6, // 33
+    6, // 34
+    6, // 35
+    6, // 36
+    6, // 37
+    6, // 38
+    6, // 39
+    6, // 40
+    6, // 41
+    6, // 42
+    6, // 43
+    6, // 44
+    6, // 45
+    6, // 46
+    6, // 47
+    6, // 48
+    6, // 49
+    6, // 50
+    6, // 51
+    6, // 52
+    6, // 53
+    6, // 54
+    6, // 55
+    6, // 56
+    6, // 57
+    6, // 58
+    6, // 59
+    6, // 60
+    6, // 61
+    6, // 62
+    6, // 63
+    6, // 64
+];
+
 // The smallest e with 2^e at least v and at least 1: document 01, "The five methods", the sentence above the list.
 pub fn lg(v: usize) -> usize
     requires { ⌜ v ≤ 64 ⌝ }
     ensures { λ r. ⌜ r ≡ lgOf v ⌝ }
 {
-    let mut e: usize = 0;
-    let mut power: usize = 1;
-    while power < v {
-        power = power * 2;
-        e += 1;
-    }
-    e
+    LG[v] as usize
 }
 
 // The width of the field of a byte that the pattern has count times, in methods 2 and 3: document 02, T-03. `lg` is promised up to 64

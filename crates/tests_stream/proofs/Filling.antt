@@ -8,7 +8,7 @@ use native.Mathlib.Omega.{arith}
 use lib.ListN.{length, getD, take, drop, set, length-set}
 use lib.Seq.{length-take-le, take-at, getD-take}
 use Rattle.table_parikh.specs.Table.{tabulate}
-use Rattle.table_parikh.proofs.Tables.{getD-tabulate}
+use Rattle.table_parikh.proofs.Tables.{tabulated}
 use Rattle.lent.specs.Placed.{placed}
 use Rattle.lent.specs.Written.{Written}
 use Rattle.lent.proofs.Writing.{written-none, written-more}
@@ -59,7 +59,7 @@ filled-part filled = written-part (filled .written)
 -- a place of it
 pub filled-held : {f : ℕ → ℕ} {n : ℕ} {before after : List ℕ} → Filled f n before after → (i : ℕ) → i < n → getD after i 0 ≡ f i
 filled-held {f} {n} {after = after} filled i inside =
-    sym (getD-take n after i 0 inside) ∙ (ap (λ (l : List ℕ). getD l i 0) (filled-part filled) ∙ getD-tabulate n f i inside)
+    sym (getD-take n after i 0 inside) ∙ tabulated n f (filled-part filled) i inside
 
 -- how much is filled
 pub made-none : (letters : List ℕ) (len : ℕ) → length letters ≡ 0 → 0 ≡ madeLength letters len
