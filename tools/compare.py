@@ -272,22 +272,47 @@ def check_method_6(tally, rng):
         tally.same(what, (positions, looks), (matching, looks_of_method_6(pattern, text)))
 
 
-def check_images(tally, rng):
-    """Whatever is accepted after a change of an image is saved as it was."""
-    base = ref.Search(b"abca", 1, 4, 9, b"bca")
+def image_in_order(search, order):
+    """The bytes that would hold a search in another order of the kinds."""
+    bodies = dict(enumerate(ref.bodies_of(search), 1))
+    said = [bytes([kind]) + len(bodies[kind]).to_bytes(2, "little") for kind in order]
+    return bytes([4]) + b"".join(said) + b"".join(bodies[kind] for kind in order)
+
+
+def loads_in_every_order(tally, search):
+    """One order is taken, of a search that save accepts."""
     for order in ORDERS:
-        image = ref.image_of(base, order)
-        tally.same("load in order %r" % (order,), ref.load(image), (0, base))
+        wanted = (0, search) if order == (1, 2, 3, 4) else (9, ref.BLANK)
+        tally.same("load in order %r" % (order,), ref.load(image_in_order(search, order)), wanted)
+
+
+def check_images(tally, rng):
+    """Whatever is accepted after a change of one byte is saved as it was changed;
+    images are equal exactly when the searches are."""
+    bases = ref.Search(b"a", 0, 1, 0, b""), ref.Search(b"abca", 1, 4, 9, b"bca")
+    for base in bases:
+        image = ref.image_of(base)
+        loads_in_every_order(tally, base)
         tally.same("one byte short", ref.load(image[:-1]), (9, ref.BLANK))
         tally.same("one byte more", ref.load(image + b"\0"), (9, ref.BLANK))
-        for _ in range(60):
-            changed = bytearray(image)
-            changed[rng.randrange(len(changed))] = rng.choice((0, 1, 2, 3, 4, 5, 6, 7, 64, 255))
-            refusal, search = ref.load(bytes(changed))
-            if refusal:
-                tally.same("refused load", search, ref.BLANK)
-            else:
-                tally.same("saved again", ref.image_of(search, order), bytes(changed))
+        for at in range(len(image)):
+            for byte in range(256):
+                changed = image[:at] + bytes([byte]) + image[at + 1 :]
+                refusal, search = ref.load(changed)
+                if refusal:
+                    tally.same("refused load", search, ref.BLANK)
+                else:
+                    tally.same("saved again", ref.image_of(search), changed)
+    some = set(bases)
+    for _ in range(150):
+        m = rng.randrange(1, 4)
+        pattern = bytes(rng.choice(b"ab") for _ in range(m))
+        n = rng.choice((0, 1, 2, 258, 65536))
+        tail = bytes(rng.choice(b"ab") for _ in range(min(n, m - 1)))
+        some.add(ref.Search(pattern, rng.randrange(m), rng.choice((1, 4)), n, tail))
+    for one, other in itertools.product(some, some):
+        alike = ref.image_of(one) == ref.image_of(other)
+        tally.same("equal images of %r and %r" % (one, other), alike, one == other)
 
 
 # Pattern, k, text, and the marked sheet without its blanks on the right.
@@ -886,7 +911,6 @@ def fed(tally, search, ledger, chunk, rng):
 
 
 def one_series(tally, rng, number):
-    order = ORDERS[number % 24]
     m = rng.choice((1, 2, 3, 4, 5, 7, 8, 16, 63, 64))
     pattern = bytes(rng.choice(b"abcd\n\0\xff") for _ in range(m))
     k = rng.choice((0, 0, rng.randrange(m)))
@@ -918,7 +942,7 @@ def one_series(tally, rng, number):
             needed = 13 + m + 2 + 4 + min(len(ledger.text), m - 1)
             buffer = bytearray(b"\xaa" * (needed + rng.choice((-1, 0, 3))))
             room = len(buffer)
-            refusal, length, after = ref.save(search, buffer, order)
+            refusal, length, after = ref.save(search, buffer)
             tally.same("search after save", after, search)
             if room < needed:
                 tally.same("save", (refusal, length), (10, 0))
@@ -928,12 +952,7 @@ def one_series(tally, rng, number):
                 tally.same("rest of the buffer", bytes(buffer[length:]), b"\xaa" * (room - length))
                 image = bytes(buffer[:length])
                 kept.append((image, ledger.copy(), search))
-                for other in ORDERS:
-                    tally.same(
-                        "load in order %r" % (other,),
-                        ref.load(ref.image_of(search, other)),
-                        (0, search),
-                    )
+                loads_in_every_order(tally, search)
         elif call == 8 and kept:
             image, copy, saved = rng.choice(kept)
             refusal, search = ref.load(image)

@@ -7,7 +7,7 @@ import itertools
 
 import reference as ref
 import vectors_stream as vs
-from compare import METHODS, ORDERS, SHEET, letters, line, make_text, shuffled
+from compare import METHODS, ORDERS, SHEET, image_in_order, letters, line, make_text, shuffled
 from vectors_stream import repeated, scattered
 
 # The edges of 1 to 6 and of a byte, and two others.
@@ -108,7 +108,7 @@ def widths_at(stream, rng, pattern, k, method):
     stream.open(pattern, k, method)
     stream.open(pattern, k, 1)
     stream.set_method(method)
-    stream.load(ref.image_of(ref.Search(pattern, k, method, 0, b""), rng.choice(ORDERS)))
+    stream.load(ref.image_of(ref.Search(pattern, k, method, 0, b"")))
     stream.feed(pattern[:2])
 
 
@@ -567,49 +567,93 @@ IMAGES = (
 
 
 def image_orders(stream, rng):
-    """All 24 orders, and that what was loaded goes on as it should."""
+    """Saved, and loaded in all 24 orders, of which one is taken: what was loaded goes
+    on as it should, and what was refused is the blank search."""
     wide = pattern_of(rng, 64, 3)
     searches = IMAGES + (
         ref.Search(b"\x04\x01\x02", 2, 1, 1, b"\x03"),
         ref.Search(wide, 0, 3, 70, shuffled(rng, wide)[1:]),
     )
+    for search in searches:
+        stream.hand(handed(rng, *search))
+        stream.save(512)
     for order in ORDERS:
-        for search in searches[: 5 if order[0] == 3 else 4]:
-            stream.load(ref.image_of(search, order))
+        for search in searches[: 5 if order in ((1, 2, 3, 4), (1, 2, 4, 3)) else 4]:
+            stream.load(image_in_order(search, order))
         stream.save(512)
         stream.feed(b"\x01\x04\x02ab")
 
 
 def changed_images(stream, rng):
-    """Each byte changed, and every truncation."""
-    orders = (1, 2, 3, 4), (3, 1, 4, 2), (2, 4, 3, 1), (4, 3, 2, 1)
-    for search, order in zip(IMAGES + IMAGES[1:2], orders):
-        image = ref.image_of(search, order)
+    """Each byte changed, and every truncation; of the smallest, 20 bytes, every bit."""
+    for search in IMAGES:
+        image = ref.image_of(search)
         for end in range(len(image)):
             stream.load(image[:end])
         stream.load(image + b"\0")
         for at, byte in enumerate(image):
-            for other in sorted({0, byte ^ 1, (byte + 1) % 256, 5, 255} - {byte}):
+            bits = {byte ^ 1 << i for i in range(8)} if len(image) == 20 else set()
+            for other in sorted({0, byte ^ 1, (byte + 1) % 256, 5, 255} - {byte} | bits):
                 stream.load(image[:at] + bytes([other]) + image[at + 1 :])
         stream.save(99)
 
 
-def image_with(order, bodies, lengths=()):
+def bodies_in_another_order(stream, rng):
+    """The entries as they must be, and the bodies in all orders: what stands where a
+    body is looked for is taken for it."""
+    searches = IMAGES[1], ref.Search(b"\0\1\0\1", 0, 1, 258, b"\1\0\0")
+    for order in ORDERS:
+        for search in searches:
+            image, bodies = ref.image_of(search), ref.bodies_of(search)
+            stream.load(image[:13] + b"".join(bodies[kind - 1] for kind in order))
+            stream.save(99)
+
+
+# Each alike with the one before it but for one part: the order of the pattern's letters,
+# its letters, k, the method, n in each of its bytes, the tail.
+NEARLY_ALIKE = (
+    ref.Search(b"abc", 1, 4, 9, b"ab"),
+    ref.Search(b"bac", 1, 4, 9, b"ab"),
+    ref.Search(b"bab", 1, 4, 9, b"ab"),
+    ref.Search(b"bab", 0, 4, 9, b"ab"),
+    ref.Search(b"bab", 0, 6, 9, b"ab"),
+    ref.Search(b"bab", 0, 6, 8, b"ab"),
+    ref.Search(b"bab", 0, 6, 264, b"ab"),
+    ref.Search(b"bab", 0, 6, 65800, b"ab"),
+    ref.Search(b"bab", 0, 6, 16843016, b"ab"),
+    ref.Search(b"bab", 0, 6, 16843016, b"ba"),
+)
+
+
+def equal_images(stream, rng):
+    """Searches filled in by hand that differ past their lengths only, saved as one
+    image; others that are nearly alike, saved as two; and each image loaded and saved
+    again."""
+    for search in IMAGES + NEARLY_ALIKE:
+        for _ in range(2):
+            stream.hand(handed(rng, *search))
+            stream.save(64)
+        stream.load(ref.image_of(search))
+        stream.save(64)
+    images = [ref.image_of(search) for search in IMAGES + NEARLY_ALIKE]
+    assert len(set(images)) == len(images)
+
+
+def image_with(bodies, lengths=()):
     """An image with any bodies, and lengths that need not be theirs."""
     said = {kind: len(body) for kind, body in bodies.items()}
     said.update(lengths)
     image = bytes([4])
-    for kind in order:
+    for kind in (1, 2, 3, 4):
         image += bytes([kind]) + said[kind].to_bytes(2, "little")
-    return image + b"".join(bodies[kind] for kind in order)
+    return image + b"".join(bodies[kind] for kind in (1, 2, 3, 4))
 
 
 def malformed_images(stream, rng):
     """Number 9 for the form, also with terms or a tail that are wrong too."""
     sound = {1: b"ab", 2: b"\0\2", 3: b"\5\0\0\0", 4: b"a"}
     for bodies in (sound, {**sound, 2: b"\7\7"}, {**sound, 4: b"abc"}):
-        order = rng.choice(ORDERS)
-        image = image_with(order, bodies)
+        image = image_with(bodies)
         for first in (0, 3, 4, 5, 255):
             stream.load(bytes([first]) + image[1:])
         for at in (1, 4, 7, 10):
@@ -618,17 +662,17 @@ def malformed_images(stream, rng):
         for kind in (1, 2, 3, 4):
             for length in (0, 1, 2, 3, 4, 5, 256, 258, 65535):
                 body = (bodies[kind] + bytes(9))[: min(length, 9)]
-                stream.load(image_with(order, {**bodies, kind: body}, {kind: length}))
+                stream.load(image_with({**bodies, kind: body}, {kind: length}))
         stream.load(image[:-1])
         stream.load(image + b"\0")
         # Lengths whose sum has the right low 16 bits, or the right low bytes.
         both = len(bodies[1]) + len(bodies[4])
         for first in (65535, 32769):
-            stream.load(image_with(order, bodies, {1: first, 4: 65536 + both - first}))
-        stream.load(image_with(order, bodies, {4: 256 + len(bodies[4])}))
+            stream.load(image_with(bodies, {1: first, 4: 65536 + both - first}))
+        stream.load(image_with(bodies, {4: 256 + len(bodies[4])}))
     # Lengths exchanged between the entries.
-    stream.load(image_with((1, 2, 3, 4), sound, {1: 1, 4: 2}))
-    stream.load(image_with((1, 2, 3, 4), sound, {2: 4, 3: 2}))
+    stream.load(image_with(sound, {1: 1, 4: 2}))
+    stream.load(image_with(sound, {2: 4, 3: 2}))
 
 
 def refused_contents(stream, rng):
@@ -641,7 +685,7 @@ def refused_contents(stream, rng):
         kept = max(0, min(n, m - 1) + rng.choice((0, 0, 0, 1, -1)))
         if m < 9 or rng.randrange(6) == 0:
             search = ref.Search(pattern[:m], k, method, n, tail[:kept])
-            stream.load(ref.image_of(search, rng.choice(ORDERS)))
+            stream.load(ref.image_of(search))
     for q, k, method in (
         (31, 0, 2), (32, 0, 2), (32, 1, 2), (65, 0, 2), (32, 32, 4), (15, 3, 4), (16, 3, 4),
     ):
@@ -705,18 +749,20 @@ class Series:
             self.kept.append((image, search, self.at, self.text))
 
     def load(self):
-        """A saved image as it was written, or in another order of its entries."""
+        """A saved image as it was written."""
         if not self.kept:
             return self.save()
         image, search, self.at, self.text = self.rng.choice(self.kept)
-        if self.rng.randrange(3) == 0:
-            image = ref.image_of(search, self.rng.choice(ORDERS))
         self.stream.load(image)
 
     def load_damaged(self):
         """A changed image may be accepted: then the text so far isn't known."""
         image = bytearray(self.rng.choice(self.kept)[0] if self.kept else b"\4\1\2")
-        if self.rng.randrange(3):
+        way = self.rng.randrange(6)
+        if way < 2 and self.kept:
+            search = self.rng.choice(self.kept)[1]
+            image = bytearray(image_in_order(search, self.rng.choice(ORDERS[1:])))
+        elif way < 4:
             image[self.rng.randrange(len(image))] ^= 1 << self.rng.randrange(8)
         else:
             del image[self.rng.randrange(len(image)) :]
@@ -1265,7 +1311,7 @@ def sides_by_every_call(stream, rng):
         stream.open(pattern, 0, method)
         stream.save(99)
         fed_in_turn(stream, pattern, (text[:1], text[1:-1], text[-1:]), (1, method, 5))
-        stream.load(ref.image_of(sound, rng.choice(ORDERS)))
+        stream.load(ref.image_of(sound))
         stream.hand(handed(rng, *sound))
         stream.save(160)
         stream.feed(mix[:2])
@@ -1448,7 +1494,7 @@ def most_letters(stream, rng):
     for method in (2, 3, 4, 6):
         stream.whole(pattern, 0, method, mix + b"~" + mix[:2])
         stream.open(pattern, 0, method)
-        stream.load(ref.image_of(search._replace(method=method), rng.choice(ORDERS)))
+        stream.load(ref.image_of(search._replace(method=method)))
         stream.report(line(method, 0, pattern) + mix + mix[:1])
         marked(stream, pattern, 0, method, mix + mix[:1])
         stream.hand(handed(rng, *search._replace(method=method)))
@@ -1564,10 +1610,10 @@ def handed_over_in_an_image(stream, rng):
             stream.feed(RECORD[:cut])
             search = ref.contents(stream.search)
             stream.save(99)
-            stream.load(ref.image_of(search, rng.choice(ORDERS)))
+            stream.load(ref.image_of(search))
             stream.set_method(second)
             stream.feed(RECORD[cut:])
-            stream.load(ref.image_of(search._replace(method=second), rng.choice(ORDERS)))
+            stream.load(ref.image_of(search._replace(method=second)))
             stream.feed(RECORD[cut:])
     for k, method in ((0, 7), (1, 6), (2, 6), (3, 6), (1, 7)):
         stream.load(ref.image_of(search._replace(k=k, method=method)))
@@ -1676,6 +1722,8 @@ FAMILIES = (
     sound_searches,
     image_orders,
     changed_images,
+    bodies_in_another_order,
+    equal_images,
     malformed_images,
     refused_contents,
     series_of_calls,

@@ -3,7 +3,7 @@
 from collections import Counter
 
 import reference as ref
-from compare import METHODS, Coverage, windows_of_method_6
+from compare import METHODS, ORDERS, Coverage, windows_of_method_6
 from vectors_stream import (
     EXACT, FEED, HAND, LOAD, MARKED, OPEN, REPORT, SAVE, SET_METHOD, SEVERAL, WHOLE, WIDTH,
     Handed, Marked,
@@ -65,6 +65,8 @@ FEWEST = {
     "saved searches of method 6 that are loaded": 10,
     "saved searches of method 6 that are loaded with another": 5,
     "saved searches of another method that are loaded with 6": 5,
+    "images of saved searches in another order": 92,
+    "saved searches that differ past their lengths alone": 10,
 }
 
 # The calls that refuse with 3, 4 and 5.
@@ -151,6 +153,20 @@ def measured_terms(op, arguments, search):
     return None
 
 
+def in_right_order(image):
+    """The kinds that four entries name, and the image with entries and bodies put in
+    the order of their kinds."""
+    entries, bodies, at = [], [], 13
+    for i in range(1, 13, 3):
+        entries.append(image[i : i + 3])
+        end = at + int.from_bytes(image[i + 1 : i + 3], "little")
+        bodies.append(image[at:end])
+        at = end
+    by_kind = sorted(zip(entries, bodies))
+    put_right = image[:1] + b"".join(e for e, _ in by_kind) + b"".join(b for _, b in by_kind)
+    return tuple(image[1:13:3]), put_right
+
+
 def has_thrice(pattern):
     return any(pattern.count(c) == 3 for c in pattern)
 
@@ -200,6 +216,8 @@ class VectorCoverage(Coverage):
         self.fields = set()
         self.change = None
         self.saved = set()
+        self.stored_as = {}
+        self.orders = set()
         self.in_several = set()
         self.on_paper = set()
         self.looks_of_sheets = {}
@@ -217,7 +235,7 @@ class VectorCoverage(Coverage):
         search = ref.contents(before)
         self.order(op, tests_of(op, arguments, search), number)
         self.across(op, arguments, number, search)
-        self.images(op, arguments, number, search)
+        self.images(op, arguments, number, search, before)
         if op == REPORT:
             output = ref.program_output(arguments[0])
             self.add(arguments[0], output)
@@ -339,9 +357,19 @@ class VectorCoverage(Coverage):
             if has_thrice(search.pattern) and match:
                 self.counts["a window of letters thrice across a change " + change] += 1
 
-    def images(self, op, arguments, number, search):
-        """Searches that were saved, loaded as they are or with another method."""
+    def images(self, op, arguments, number, search, stored):
+        """Searches that were saved, loaded as they are or with another method; the
+        orders of the entries, and searches alike that are stored unlike."""
+        if op == LOAD:
+            order, put_right = in_right_order(arguments[0])
+            self.orders.add((order, number))
+            known = order in ORDERS[1:] and ref.parts_of(put_right) in self.saved
+            self.counts["images of saved searches in another order"] += known
         if op == SAVE and not number:
+            stored_before = self.stored_as.setdefault(search, set())
+            again = stored not in stored_before and len(stored_before) > 0
+            self.counts["saved searches that differ past their lengths alone"] += again
+            stored_before.add(stored)
             self.saved.add(search)
         elif op == LOAD and number in (0, 5):
             loaded = ref.parts_of(arguments[0])
@@ -625,6 +653,10 @@ class VectorCoverage(Coverage):
             for reached in wanted():
                 if reached not in self.by_letters:
                     missing.append("method 6: %s" % (reached,))
+        for order in ORDERS:
+            number = 0 if order == (1, 2, 3, 4) else 9
+            if (order, number) not in self.orders:
+                missing.append("an image in the order %r with number %d" % (order, number))
         if min(len(self.in_pattern), len(self.in_text), len(self.in_several)) < 256:
             missing.append("byte values")
         if min(len(self.known), len(self.lacking)) < 256:

@@ -1,26 +1,17 @@
 -- Laws of what any bytes say, read as an image.
 use mathlib.Core.Path.{_≡_, refl, sym, ap, ap₂, _∙_}
-use mathlib.Core.Bool.{Bool, true, false, not, _||_}
-use mathlib.Core.List.{List, [], _∷_}
-use mathlib.Core.Logic.{_⊎_, inl, inr, ⊎-elim}
-use Prim.Native.Nat.{ℕ, suc, _+_, _-_, _*_, _≤_, _<_}
+use mathlib.Core.Bool.{Bool, true, false, not, _&&_, _||_}
+use mathlib.Core.List.{List}
+use Prim.Native.Nat.{ℕ, zero, suc, _+_, _-_, _*_, _≤_}
+use native.Mathlib.Nat.{add-zero}
+use native.Mathlib.Numerals.{add-one, unary-clauses}
 use native.Mathlib.Omega.{arith}
 use lib.Dec.{eqb}
 use lib.ListN.{length, getD, drop, length-take, length-drop}
-use lib.Seq.{getD-drop, drop-drop}
-use borrow.Author.Tests.{eq-eqb, ne-eqb, eqb-true, eqb-false, ltb-false, le-ltb, not-false}
-use Rattle.jumbled.specs.Match.{bit}
-use Rattle.jumbled.proofs.Counts.{cc-nil, cc-cons}
-use Rattle.image_form.specs.Decode.{Entry, entriesIn, contents, lengthIn, lengthsBefore, lengths, lengthOf, bodyStart, bodyOf, times, kindsRight, badForm}
+use lib.Seq.{getD-drop}
+use borrow.Author.Tests.{eq-eqb, ne-eqb, eqb-true, ltb-false, le-ltb, not-false}
+use Rattle.image_form.specs.Decode.{kindAt, lengthOf, endOf, bodyOf, kindsRight, badForm}
 use Rattle.image_form.proofs.Numbers.{number-two}
-
--- two numbers are the same, or they are not
-pub same-or-not : (a b : ℕ) → (a ≡ b) ⊎ (a ≡ b → ⊥)
-same-or-not a b = by (eqb a b) refl
-  where
-    by : (t : Bool) → eqb a b ≡ t → (a ≡ b) ⊎ (a ≡ b → ⊥)
-    by true e = inl (eqb-true a b e)
-    by false e = inr (eqb-false a b e)
 
 -- a test of a number by what it equals
 pub equal-known : {r n : ℕ} (k : ℕ) → r ≡ n → r ≡ k → eqb n k ≡ true
@@ -29,100 +20,35 @@ equal-known {r} {n} k e same = eq-eqb n k (sym e ∙ same)
 pub differs-known : {r n : ℕ} (k : ℕ) → r ≡ n → (r ≡ k → ⊥) → eqb n k ≡ false
 differs-known {r} {n} k e differ = ne-eqb n k (λ (same : n ≡ k). differ (e ∙ same))
 
--- ---- one entry more
+-- ---- lengths and ends
 
-module _ (kind : ℕ) (e : Entry) (es : List Entry) where
-  pub length-here : e .kind ≡ kind → lengthIn kind (e ∷ es) ≡ e .len
-  unfolding lengthIn
-  length-here same = rw (eq-eqb (e .kind) kind same) refl
+module _ (image : List ℕ) where
+  -- the two bytes of a length
+  pub length-bytes : (kind : ℕ) → 13 ≤ length image → 1 ≤ kind → kind ≤ 4
+      → lengthOf kind image ≡ getD image (3 * kind - 1) 0 + 256 * getD image (3 * kind) 0
+  unfolding lengthOf
+  length-bytes kind long least most =
+      let rest : 2 ≤ length (drop (3 * kind - 1) image) = simp (length-drop) (omega arith) in
+      let next : 3 * kind - 1 + 1 ≡ 3 * kind = omega arith in
+      number-two (drop (3 * kind - 1) image) rest
+      ∙ ap₂ (λ (low high : ℕ). low + 256 * high) (byte 0 (add-zero (3 * kind - 1))) (byte 1 next)
+    where
+      byte : (i : ℕ) {at : ℕ} → 3 * kind - 1 + i ≡ at → getD (drop (3 * kind - 1) image) i 0 ≡ getD image at 0
+      byte i e = getD-drop (3 * kind - 1) image i 0 ∙ ap (λ (at : ℕ). getD image at 0) e
 
-  pub length-later : (e .kind ≡ kind → ⊥) → lengthIn kind (e ∷ es) ≡ lengthIn kind es
-  unfolding lengthIn
-  length-later differ = rw (ne-eqb (e .kind) kind differ) refl
+  pub end-first : endOf 0 image ≡ 13
+  unfolding endOf
+  end-first = refl
 
-  pub before-here : e .kind ≡ kind → lengthsBefore kind (e ∷ es) ≡ 0
-  unfolding lengthsBefore
-  before-here same = rw (eq-eqb (e .kind) kind same) refl
+  pub end-next : (kind : ℕ) → endOf (kind + 1) image ≡ endOf kind image + lengthOf (kind + 1) image
+  unfolding endOf
+  end-next kind = rw (add-one kind) refl
 
-  pub before-later : (e .kind ≡ kind → ⊥) → lengthsBefore kind (e ∷ es) ≡ e .len + lengthsBefore kind es
-  unfolding lengthsBefore
-  before-later differ = rw (ne-eqb (e .kind) kind differ) refl
-
-  pub times-cons : times kind (e ∷ es) ≡ bit (eqb (e .kind) kind) + times kind es
-  unfolding times
-  times-cons = cc-cons (e .kind) _ kind
-
-pub times-nil : (kind : ℕ) → times kind [] ≡ 0
-unfolding times
-times-nil kind = cc-nil kind
-
--- the body of a kind ends where the last body does, or before
-place-within : (kind : ℕ) (es : List Entry) → lengthsBefore kind es + lengthIn kind es ≤ lengths es
-unfolding lengthsBefore lengthIn lengths
-place-within kind [] = omega arith
-place-within kind (e ∷ es) =
-    let rest = place-within kind es in
-    ⊎-elim (λ (same : e .kind ≡ kind). omega (arith, before-here kind e es same, length-here kind e es same))
-    (λ (differ : e .kind ≡ kind → ⊥). omega (arith, before-later kind e es differ, length-later kind e es differ)) (same-or-not (e .kind) kind)
-
--- ---- the entries of an image
-
--- the entries from the i-th on
-abbrev pub entriesFrom : List ℕ → ℕ → List Entry
-entriesFrom image i = entriesIn (4 - i) (drop (1 + 3 * i) image)
-
--- an entry, by its place
-abbrev pub entryAt : List ℕ → ℕ → Entry
-entryAt image i = record { kind = getD image (1 + 3 * i) 0; len = getD image (2 + 3 * i) 0 + 256 * getD image (3 + 3 * i) 0 }
-
--- the entries from a place on: all of them, none, or one and those from the next place on
-pub from-first : (image : List ℕ) → entriesFrom image 0 ≡ contents image
-unfolding contents
-from-first image = refl
-
-pub from-last : (image : List ℕ) (i : ℕ) → 4 ≤ i → entriesFrom image i ≡ []
-unfolding entriesIn
-from-last image i h = let none : 4 - i ≡ 0 = omega arith in ap (λ (n : ℕ). entriesIn n (drop (1 + 3 * i) image)) none
-
-pub from-next : (image : List ℕ) (i : ℕ) → 13 ≤ length image → i < 4 → entriesFrom image i ≡ entryAt image i ∷ entriesFrom image (i + 1)
-unfolding entriesIn
-from-next image i long h =
-    let one-more : 4 - i ≡ suc (4 - (i + 1)) = omega arith in
-    let next : 1 + 3 * i + 3 ≡ 1 + 3 * (i + 1) = omega arith in
-    let rest : 2 ≤ length (drop 1 (drop (1 + 3 * i) image)) = simp (length-drop) (omega arith) in
-    ap (λ (n : ℕ). entriesIn n (drop (1 + 3 * i) image)) one-more
-    ∙ ap₂ (λ (e : Entry) (es : List Entry). e ∷ es)
-    (ap₂ (λ (kind len : ℕ). record { kind = kind; len = len }) (place 0 (1 + 3 * i) (omega arith)) (number-two (drop 1 (drop (1 + 3 * i) image)) rest ∙ bytes))
-    (ap (entriesIn (4 - (i + 1))) (drop-drop 3 (1 + 3 * i) image ∙ ap (λ (n : ℕ). drop n image) next))
-  where
-    place : (j n : ℕ) → 1 + 3 * i + j ≡ n → getD (drop (1 + 3 * i) image) j 0 ≡ getD image n 0
-    place j n e = getD-drop (1 + 3 * i) image j 0 ∙ ap (λ (m : ℕ). getD image m 0) e
-
-    bytes : getD (drop 1 (drop (1 + 3 * i) image)) 0 0 + 256 * getD (drop 1 (drop (1 + 3 * i) image)) 1 0
-        ≡ getD image (2 + 3 * i) 0 + 256 * getD image (3 + 3 * i) 0
-    bytes =
-        ap₂ (λ (low high : ℕ). low + 256 * high)
-        (getD-drop 1 (drop (1 + 3 * i) image) 0 0 ∙ place 1 (2 + 3 * i) (omega arith))
-        (getD-drop 1 (drop (1 + 3 * i) image) 1 0 ∙ place 2 (3 + 3 * i) (omega arith))
-
--- the entry at a place is of a kind, or it is not
-module _ (image : List ℕ) (i : ℕ) (long : 13 ≤ length image) (more : i < 4) (kind : ℕ) where
-  pub found-here : getD image (1 + 3 * i) 0 ≡ kind
-      → (lengthsBefore kind (entriesFrom image i) ≡ 0) × (lengthIn kind (entriesFrom image i) ≡ entryAt image i .len)
-  found-here same =
-      let next = from-next image i long more in (
-        ap (lengthsBefore kind) next ∙ before-here kind (entryAt image i) (entriesFrom image (i + 1)) same,
-        ap (lengthIn kind) next ∙ length-here kind (entryAt image i) (entriesFrom image (i + 1)) same,
-      )
-
-  pub found-later : (getD image (1 + 3 * i) 0 ≡ kind → ⊥)
-      → (lengthsBefore kind (entriesFrom image i) ≡ entryAt image i .len + lengthsBefore kind (entriesFrom image (i + 1)))
-      × (lengthIn kind (entriesFrom image i) ≡ lengthIn kind (entriesFrom image (i + 1)))
-  found-later differ =
-      let next = from-next image i long more in (
-        ap (lengthsBefore kind) next ∙ before-later kind (entryAt image i) (entriesFrom image (i + 1)) differ,
-        ap (lengthIn kind) next ∙ length-later kind (entryAt image i) (entriesFrom image (i + 1)) differ,
-      )
+  -- a body ends no later than the ones after it
+  later-ends : (kind more : ℕ) → endOf kind image ≤ endOf (kind + more) image
+  unfolding endOf
+  later-ends kind zero = simp unary-clauses (omega arith)
+  later-ends kind (suc more) = simp unary-clauses (omega (arith, later-ends kind more))
 
 -- ---- the form
 
@@ -134,10 +60,10 @@ or-false false b h = (refl, h)
 pub record Formed (image : List ℕ) : Type 0 where
   pub long : 13 ≤ length image
   pub first : getD image 0 0 ≡ 4
-  pub kinds : kindsRight (contents image) ≡ true
+  pub kinds : kindsRight image ≡ true
   pub two : lengthOf 2 image ≡ 2
   pub four : lengthOf 3 image ≡ 4
-  pub whole : length image ≡ 13 + lengths (contents image)
+  pub whole : length image ≡ endOf 4 image
 
 equal : (a b : ℕ) → not (eqb a b) ≡ false → a ≡ b
 equal a b h = eqb-true a b (not-false (eqb a b) h)
@@ -153,10 +79,10 @@ formed image h =
     record {
       long = ltb-false (length image) 13 (h₁ .0);
       first = equal (getD image 0 0) 4 (h₂ .0);
-      kinds = not-false (kindsRight (contents image)) (h₃ .0);
+      kinds = not-false (kindsRight image) (h₃ .0);
       two = equal (lengthOf 2 image) 2 (h₄ .0);
       four = equal (lengthOf 3 image) 4 (h₅ .0);
-      whole = equal (length image) (13 + lengths (contents image)) (h₅ .1);
+      whole = equal (length image) (endOf 4 image) (h₅ .1);
     }
 
 -- and every such image is taken
@@ -169,24 +95,65 @@ taken image f =
       f .kinds,
       eq-eqb (lengthOf 2 image) 2 (f .two),
       eq-eqb (lengthOf 3 image) 4 (f .four),
-      eq-eqb (length image) (13 + lengths (contents image)) (f .whole),
+      eq-eqb (length image) (endOf 4 image) (f .whole),
     )
     refl
 
-module _ (image : List ℕ) (f : Formed image) (kind : ℕ) where
+-- ---- the kinds
+
+and-true : (a b : Bool) → (a && b) ≡ true → (a ≡ true) × (b ≡ true)
+and-true true b h = (refl, h)
+and-true false b h = (h, cc)
+
+-- entries of the right kinds: the i-th is of kind i
+pub kinds-known : (image : List ℕ) → kindsRight image ≡ true → (i : ℕ) → 1 ≤ i → i ≤ 4 → kindAt i image ≡ i
+unfolding kindsRight
+kinds-known image h =
+    let three = and-true (right 1 && right 2 && right 3) (right 4) h in
+    let two = and-true (right 1 && right 2) (right 3) (three .0) in
+    let one = and-true (right 1) (right 2) (two .0) in
+    known (one .0) (one .1) (two .1) (three .1)
+  where
+    right : ℕ → Bool
+    right i = eqb (kindAt i image) i
+
+    known : right 1 ≡ true → right 2 ≡ true → right 3 ≡ true → right 4 ≡ true → (i : ℕ) → 1 ≤ i → i ≤ 4 → kindAt i image ≡ i
+    known h₁ h₂ h₃ h₄ zero least most = absurd (omega arith)
+    known h₁ h₂ h₃ h₄ (suc zero) least most = eqb-true (kindAt 1 image) 1 h₁
+    known h₁ h₂ h₃ h₄ (suc (suc zero)) least most = eqb-true (kindAt 2 image) 2 h₂
+    known h₁ h₂ h₃ h₄ (suc (suc (suc zero))) least most = eqb-true (kindAt 3 image) 3 h₃
+    known h₁ h₂ h₃ h₄ (suc (suc (suc (suc zero)))) least most = eqb-true (kindAt 4 image) 4 h₄
+    known h₁ h₂ h₃ h₄ (suc (suc (suc (suc (suc i))))) least most = absurd (omega arith)
+
+-- and where one is not, the form is bad
+pub kind-refused : (image : List ℕ) (i : ℕ) → 1 ≤ i → i ≤ 4 → (kindAt i image ≡ i → ⊥) → badForm image ≡ true
+kind-refused image i least most other = by (badForm image) refl
+  where
+    by : (bad : Bool) → badForm image ≡ bad → badForm image ≡ true
+    by true e = e
+    by false e = absurd (other (kinds-known image (formed image e .kinds) i least most))
+
+-- ---- the bodies
+
+module _ (image : List ℕ) (f : Formed image) (kind : ℕ) (least : 1 ≤ kind) (most : kind ≤ 4) where
   -- a body lies within the image,
-  pub body-within : bodyStart kind image + lengthOf kind image ≤ length image
-  body-within = omega (arith, place-within kind (contents image), f .whole)
+  pub body-within : endOf (kind - 1) image + lengthOf kind image ≤ length image
+  body-within =
+      let this : kind - 1 + 1 ≡ kind = omega arith in
+      let last : kind + (4 - kind) ≡ 4 = omega arith in
+      let end : endOf kind image ≡ endOf (kind - 1) image + lengthOf kind image =
+      rw this at (end-next image (kind - 1)) in
+      omega (arith, rw last at (later-ends image kind (4 - kind)), f .whole)
 
   -- and so has the length that its entry says
-  length-bodyOf : length (bodyOf kind image) ≡ lengthOf kind image
+  pub length-bodyOf : length (bodyOf kind image) ≡ lengthOf kind image
   unfolding bodyOf
   length-bodyOf = simp (length-take, length-drop) (omega (arith, body-within))
 
 -- the bodies of kinds 2 and 3
 module _ (image : List ℕ) {l : List ℕ} (form : badForm image ≡ false) where
   pub two-bytes : l ≡ bodyOf 2 image → length l ≡ 2
-  two-bytes e = ap length e ∙ length-bodyOf image (formed image form) 2 ∙ formed image form .two
+  two-bytes e = ap length e ∙ length-bodyOf image (formed image form) 2 (omega arith) (omega arith) ∙ formed image form .two
 
   pub four-bytes : l ≡ bodyOf 3 image → length l ≡ 4
-  four-bytes e = ap length e ∙ length-bodyOf image (formed image form) 3 ∙ formed image form .four
+  four-bytes e = ap length e ∙ length-bodyOf image (formed image form) 3 (omega arith) (omega arith) ∙ formed image form .four

@@ -2,3 +2,4 @@
 pub mod Numbers
 pub mod Contents
 pub mod Images
+pub mod Again

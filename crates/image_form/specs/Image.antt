@@ -1,11 +1,7 @@
--- What save writes: document 01, "The saved image".
-use mathlib.Core.Path.{_≡_}
-use mathlib.Core.Bool.{cond}
-use mathlib.Core.List.{List, [], _∷_, _++_, flatMap}
-use Prim.Native.Nat.{ℕ, zero, suc, _/_, _%_, _^_, _≤_, _<_}
-use lib.Dec.{eqb}
+-- What save writes: document 01, "The saved image", in the order of document 02, T-06.
+use mathlib.Core.List.{List, [], _∷_, _++_}
+use Prim.Native.Nat.{ℕ, zero, suc, _/_, _%_, _^_, _<_}
 use lib.ListN.{length}
-use Rattle.jumbled.specs.Match.{cc}
 
 -- What a search is saved as: the five parts by which document 01, "A search and its calls", compares searches
 pub record Parts : Type 0 where
@@ -24,36 +20,23 @@ unfoldable pub lowFirst : ℕ → ℕ → List ℕ
 lowFirst zero n = []
 lowFirst (suc count) n = n % 256 ∷ lowFirst count (n / 256)
 
--- What stands under each kind: the pattern under 1, a byte of k and a byte of the method under 2, n in four bytes under 3, the tail under 4. There is
--- no other kind.
-unfoldable pub body : Parts → ℕ → List ℕ
-body parts kind =
-    cond (eqb kind 1) (parts .pattern)
-    (cond (eqb kind 2) (parts .k ∷ parts .method ∷ [])
-    (cond (eqb kind 3) (lowFirst 4 (parts .total))
-    (cond (eqb kind 4) (parts .tail)
-    [])))
-
 -- An entry: a byte for the kind, and the length of its body in two, the lower first
 abbrev pub entry : ℕ → ℕ → List ℕ
 entry kind len = kind ∷ lowFirst 2 len
 
--- The entries in an order, where a function gives each kind its body
-abbrev pub entries : (ℕ → List ℕ) → List ℕ → List ℕ
-entries bodyFor order = flatMap (λ kind. entry kind (length (bodyFor kind))) order
+-- The contents, for a pattern and a tail of some lengths: the byte 04, then an entry for each of the kinds 1, 2, 3 and 4
+unfoldable pub contents : ℕ → ℕ → List ℕ
+contents patternLen tailLen = (4 ∷ []) ++ entry 1 patternLen ++ entry 2 2 ++ entry 3 4 ++ entry 4 tailLen
 
--- The image whose entries stand in an order: the byte 04, the entries, and then the bodies in that order too
-unfoldable pub image : List ℕ → Parts → List ℕ
-image order parts = 4 ∷ (entries (body parts) order ++ flatMap (body parts) order)
-
--- The kinds 1 to 4, each once
-pub record IsOrder (order : List ℕ) : Type 0 where
-  pub four : length order ≡ 4
-  pub once : (kind : ℕ) → 1 ≤ kind → kind ≤ 4 → cc order kind ≡ 1
-
--- The order that every save writes, which document 01 leaves free. Proofs of anything but the writing itself know of it that it is an order.
-unfoldable pub saveOrder : List ℕ
-saveOrder = 1 ∷ 2 ∷ 3 ∷ 4 ∷ []
+-- The image: after the contents the bodies, in the same order. Kind 1 is the pattern, kind 2 a byte of k and a byte of the method, kind 3 n in four
+-- bytes, kind 4 the tail.
+unfoldable pub image : Parts → List ℕ
+image parts =
+    contents (length (parts .pattern)) (length (parts .tail))
+    ++ parts .pattern
+    ++ (parts .k ∷ parts .method ∷ [])
+    ++ lowFirst 4 (parts .total)
+    ++ parts .tail
 
 -- Parts that an image has room to say: lengths of 16 bits, n of 32
 pub record Sized (parts : Parts) : Type 0 where

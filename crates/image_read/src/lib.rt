@@ -1,90 +1,50 @@
-// Reads the saved form of a search from a slice: document 01, "The saved image". First what the four entries say of the bodies, then the tests of
-// the form and the parts themselves.
+// Reads the saved form of a search from a slice: document 01, "The saved image", and document 02, T-06. First what the four entries say of the bodies,
+// then the tests of the form and the parts themselves.
 
 ghost use mathlib.Core.Path.{_≡_};
 ghost use mathlib.Core.Bool.{not, false};
 ghost use Prim.Native.Nat.{_+_, _*_, _^_, _≤_, _<_};
-ghost use lib.ListN.{length, getD};
-ghost use Rattle.image_form.specs.Decode.{contents, lengths, lengthOf, bodyStart, times, bodyOf, kindsRight, badForm, partsOf};
+ghost use lib.ListN.{length};
+ghost use Rattle.image_form.specs.Decode.{lengthOf, endOf, bodyOf, kindsRight, badForm, partsOf};
 use image_form::HEAD;
 
-// Where a body stands.
-struct Place {
-    start: usize,
-    len: usize,
+// The length that the entry of a kind says: that entry takes the bytes 3 * kind - 2 to 3 * kind.
+fn length_of(image: &[u8], kind: usize) -> usize
+    requires { ⌜ (13 ≤ length (now image)) × (1 ≤ kind) × (kind ≤ 4) ⌝ }
+    ensures { λ r. ⌜ (r ≡ lengthOf kind (now (image .entry))) × (r < 2 ^ 16) ⌝ }
+{
+    image[3 * kind - 1] as usize + 256 * (image[3 * kind] as usize)
 }
 
-// The length that the entry at a place says.
-fn length_at(image: &[u8], i: usize) -> usize
-    requires { ⌜ (13 ≤ length (now image)) × (i < 4) ⌝ }
-    ensures { λ r. ⌜ (r ≡ getD (now (image .entry)) (2 + 3 * i) 0 + 256 * getD (now (image .entry)) (3 + 3 * i) 0) × (r < 2 ^ 16) ⌝ }
+// Where the body of a kind ends; 0 stands for what comes before the bodies.
+fn end_of(image: &[u8], kind: usize) -> usize
+    requires { ⌜ (13 ≤ length (now image)) × (kind ≤ 4) ⌝ }
+    ensures { λ r. ⌜ (r ≡ endOf kind (now (image .entry))) × (r < 2 ^ 19) ⌝ }
 {
-    image[2 + 3 * i] as usize + 256 * (image[3 + 3 * i] as usize)
-}
-
-// Where the body of a kind stands, by the entries before its own.
-fn place_of(image: &[u8], kind: u8) -> Place
-    requires { ⌜ 13 ≤ length (now image) ⌝ }
-    ensures { λ r. ⌜ (r .start ≡ bodyStart kind (now (image .entry))) × (r .len ≡ lengthOf kind (now (image .entry))) ⌝ }
-{
-    let mut start = HEAD;
+    let mut end = HEAD;
     let mut i = 0;
-    while i < 4 {
-        let len = length_at(image, i);
-        if image[1 + 3 * i] == kind {
-            return Place { start, len };
-        }
-        start += len;
+    while i < kind {
         i += 1;
+        end += length_of(image, i);
     }
-    Place { start, len: 0 }
+    end
 }
 
-// How many entries are of a kind.
-fn times_of(image: &[u8], kind: u8) -> usize
-    requires { ⌜ 13 ≤ length (now image) ⌝ }
-    ensures { λ r. ⌜ r ≡ times kind (contents (now (image .entry))) ⌝ }
-{
-    let mut found: usize = 0;
-    let mut i = 0;
-    while i < 4 {
-        if image[1 + 3 * i] == kind {
-            found += 1;
-        }
-        i += 1;
-    }
-    found
-}
-
-// The four lengths together.
-fn all_lengths(image: &[u8]) -> usize
-    requires { ⌜ 13 ≤ length (now image) ⌝ }
-    ensures { λ r. ⌜ (r ≡ lengths (contents (now (image .entry)))) × (r < 2 ^ 18) ⌝ }
-{
-    let mut sum: usize = 0;
-    let mut i = 0;
-    while i < 4 {
-        sum += length_at(image, i);
-        i += 1;
-    }
-    sum
-}
-
-// Each of the kinds 1 to 4 has one entry.
+// The entries are of the kinds 1, 2, 3 and 4, in this order.
 fn kinds_right(image: &[u8]) -> bool
     requires { ⌜ 13 ≤ length (now image) ⌝ }
-    ensures { λ r. ⌜ r ≡ kindsRight (contents (now (image .entry))) ⌝ }
+    ensures { λ r. ⌜ r ≡ kindsRight (now (image .entry)) ⌝ }
 {
-    if times_of(image, 1) != 1 {
+    if image[1] != 1 {
         return false;
     }
-    if times_of(image, 2) != 1 {
+    if image[4] != 2 {
         return false;
     }
-    if times_of(image, 3) != 1 {
+    if image[7] != 3 {
         return false;
     }
-    times_of(image, 4) == 1
+    image[10] == 4
 }
 
 // The form is one that load takes.
@@ -100,23 +60,22 @@ pub fn well_formed(image: &[u8]) -> bool
     if !kinds_right(image) {
         return false;
     }
-    if place_of(image, 2).len != 2 {
+    if length_of(image, 2) != 2 {
         return false;
     }
-    if place_of(image, 3).len != 4 {
+    if length_of(image, 3) != 4 {
         return false;
     }
-    image.len() == HEAD + all_lengths(image)
+    image.len() == end_of(image, 4)
 }
 
 // The body of a kind, as a part of the image.
-pub fn body_of(image: &[u8], kind: u8) -> &[u8]
-    requires { ⌜ badForm (now image) ≡ false ⌝ }
+pub fn body_of(image: &[u8], kind: usize) -> &[u8]
+    requires { ⌜ (badForm (now image) ≡ false) × (1 ≤ kind) × (kind ≤ 4) ⌝ }
     ensures { λ r. ⌜ now r ≡ bodyOf kind (now (image .entry)) ⌝ }
 {
-    let place = place_of(image, kind);
-    let start = place.start;
-    let end = start + place.len;
+    let start = end_of(image, kind - 1);
+    let end = start + length_of(image, kind);
     &image[start..end]
 }
 

@@ -1,3 +1,2 @@
-pub mod Bodies
-pub mod Writing
+mod Writing
 mod Savings

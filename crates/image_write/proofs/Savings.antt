@@ -6,7 +6,7 @@ use native.Mathlib.Nat.{zero-add}
 use lib.ListN.{length}
 use Rattle.jumbled.proofs.Admission.{buffer-short, buffer-fits}
 use Rattle.lent.specs.Placed.{placed}
-use Rattle.image_form.specs.Image.{Parts, image, saveOrder}
+use Rattle.image_form.specs.Image.{Parts, image}
 use Rattle.lent.specs.Written.{Written}
 use Rattle.answers.specs.Numbers.{numberOf}
 use Rattle.answers.specs.declared.Refusal.the-variants.{BufferTooShort}
@@ -16,7 +16,7 @@ use Rattle.image_write.specs.Saved.{bufferNumber, Saved}
 
 module _ (parts : Parts) (buffer : List ℕ) where
   abbrev written : List ℕ
-  written = image saveOrder parts
+  written = image parts
 
   -- a refusal leaves the buffer as it was
   pub saved-short : length buffer < length written → Saved parts buffer buffer (Saving.Refused BufferTooShort)

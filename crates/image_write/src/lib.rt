@@ -1,100 +1,41 @@
-// Writes the saved form of a search into a lent buffer, if it has room: document 01, "The saved image" and "A search and its calls". First what is
-// saved under each kind, then the entries and bodies, then the call's part of the work.
+// Writes the saved form of a search into a lent buffer, if it has room: document 01, "The saved image" and "A search and its calls", and document 02,
+// T-06. First the bytes of n and of the contents, then the whole image, then the call's part of the work.
 
 ghost use mathlib.Core.Path.{_≡_};
 ghost use Prim.Native.Nat.{_+_, _≤_};
 ghost use lib.ListN.{length};
-ghost use Rattle.image_form.specs.Image.{partsWith, entry};
-ghost use Rattle.lent.specs.Written.{Written};
-ghost use Rattle.image_write.specs.Bodies.{numbersWith, bodyFrom};
-ghost use Rattle.image_write.specs.Writing.{allEntries, allBodies, Roomy, Encodable, EntriesWritten, BodiesWritten, ImageWritten};
+ghost use Rattle.image_form.specs.Image.{partsWith, lowFirst, contents};
+ghost use Rattle.image_write.specs.Writing.{Encodable, ImageWritten};
 ghost use Rattle.image_write.specs.Saved.{Saved};
 use answers::Refusal;
 use answers::Saving;
 use image_form::HEAD;
 use lent::copy_in;
 
-// k and method, one byte each, and the total n in four, low byte first.
-fn numbers_of(k: u8, method: u8, total: u32) -> [u8; 6]
-    ensures { λ r. ⌜ r ≡ numbersWith k method total ⌝ }
+// A number in four bytes, low byte first.
+fn low_first(n: u32) -> [u8; 4]
+    ensures { λ r. ⌜ r ≡ lowFirst 4 n ⌝ }
 {
     [
-        k,
-        method,
-        (total % 256) as u8,
-        (total / 256 % 256) as u8,
-        (total / 256 / 256 % 256) as u8,
-        (total / 256 / 256 / 256 % 256) as u8,
+        (n % 256) as u8,
+        (n / 256 % 256) as u8,
+        (n / 256 / 256 % 256) as u8,
+        (n / 256 / 256 / 256 % 256) as u8,
     ]
 }
 
-// The body to be saved under a kind; numbers are the six bytes that numbers_of gives.
-fn body_to_save<'a>(kind: u8, pattern: &'a [u8], numbers: &'a [u8], tail: &'a [u8]) -> &'a [u8]
-    requires { ⌜ length (now numbers) ≡ 6 ⌝ }
-    ensures { λ r. ⌜ now r ≡ bodyFrom (now (pattern .entry)) (now (numbers .entry)) (now (tail .entry)) kind ⌝ }
-{
-    match kind {
-        1 => pattern,
-        2 => &numbers[..2],
-        3 => &numbers[2..],
-        4 => tail,
-        _ => &numbers[..0],
-    }
-}
+// The first byte and the four entries of an image, with 0 for the lengths of pattern and tail: bytes 2 and 3, 11 and 12.
+const CONTENTS: [u8; HEAD] = [4, 1, 0, 0, 2, 2, 0, 3, 4, 0, 4, 0, 0];
 
-// The order in which every save writes the entries and their bodies: stated here and in image_form/specs/, and nowhere else.
-const ORDER: [u8; 4] = [1, 2, 3, 4];
-
-// An entry, put into the buffer from a place on.
-fn put_entry(kind: u8, len: usize, buffer: &mut [u8], at: usize) -> usize
-    requires { ⌜ at + 3 ≤ length (now buffer) ⌝ }
-    ensures { λ r. ⌜ Written (now (buffer .entry)) at (entry kind len) (now (buffer .exit)) r ⌝ }
+// The same with these lengths, whose high bytes are 0.
+fn contents_of(pattern: usize, tail: usize) -> [u8; HEAD]
+    requires { ⌜ (pattern ≤ 64) × (tail ≤ 64) ⌝ }
+    ensures { λ r. ⌜ r ≡ contents pattern tail ⌝ }
 {
-    let bytes = [kind, (len % 256) as u8, (len / 256 % 256) as u8];
-    copy_in(&bytes, buffer, at)
-}
-
-// The four entries, put in from a place on.
-fn put_entries<'a>(
-    pattern: &'a [u8],
-    numbers: &'a [u8],
-    tail: &'a [u8],
-    buffer: &mut [u8],
-    start: usize,
-) -> usize
-    requires { ⌜ Roomy (now numbers) (allEntries (now pattern) (now numbers) (now tail)) (now buffer) start ⌝ }
-    ensures { λ r. ⌜ EntriesWritten (now (pattern .entry)) (now (numbers .entry)) (now (tail .entry)) (now (buffer .entry)) start (now (buffer .exit)) r ⌝ }
-{
-    let mut at = start;
-    let mut i = 0;
-    while i < 4 {
-        let kind = ORDER[i];
-        let len = body_to_save(kind, pattern, numbers, tail).len();
-        at = put_entry(kind, len, buffer, at);
-        i += 1;
-    }
-    at
-}
-
-// The four bodies, put in from a place on.
-fn put_bodies<'a>(
-    pattern: &'a [u8],
-    numbers: &'a [u8],
-    tail: &'a [u8],
-    buffer: &mut [u8],
-    start: usize,
-) -> usize
-    requires { ⌜ Roomy (now numbers) (allBodies (now pattern) (now numbers) (now tail)) (now buffer) start ⌝ }
-    ensures { λ r. ⌜ BodiesWritten (now (pattern .entry)) (now (numbers .entry)) (now (tail .entry)) (now (buffer .entry)) start (now (buffer .exit)) r ⌝ }
-{
-    let mut at = start;
-    let mut i = 0;
-    while i < 4 {
-        let kind = ORDER[i];
-        at = copy_in(body_to_save(kind, pattern, numbers, tail), buffer, at);
-        i += 1;
-    }
-    at
+    let mut bytes = CONTENTS;
+    bytes[2] = pattern as u8;
+    bytes[11] = tail as u8;
+    bytes
 }
 
 // How long the image of a pattern and a tail of some lengths is: k, method and n take 6 bytes.
@@ -117,11 +58,14 @@ fn encode<'a>(
     requires { ⌜ Encodable (now pattern) (now tail) (now buffer) ⌝ }
     ensures { λ r. ⌜ ImageWritten (partsWith (now (pattern .entry)) k method total (now (tail .entry))) (now (buffer .entry)) (now (buffer .exit)) r ⌝ }
 {
-    let numbers = numbers_of(k, method, total);
-    let first = [4u8];
-    let at = copy_in(&first, buffer, 0);
-    let start = put_entries(pattern, &numbers, tail, buffer, at);
-    put_bodies(pattern, &numbers, tail, buffer, start)
+    let contents = contents_of(pattern.len(), tail.len());
+    let settings = [k, method];
+    let number = low_first(total);
+    let pattern_at = copy_in(&contents, buffer, 0);
+    let settings_at = copy_in(pattern, buffer, pattern_at);
+    let number_at = copy_in(&settings, buffer, settings_at);
+    let tail_at = copy_in(&number, buffer, number_at);
+    copy_in(tail, buffer, tail_at)
 }
 
 // The image of the parts in the buffer's first bytes; 10 where it is longer than the buffer.

@@ -1,11 +1,11 @@
--- Bytes made of pieces, one for each number of a list: one piece after the other, from the front and from the back, and their room.
-use mathlib.Core.Path.{_≡_, refl, sym, ap, _∙_}
+-- Bytes made of pieces, one for each number of a list: one piece after the other, and their room.
+use mathlib.Core.Path.{_≡_, refl, ap, _∙_}
 use mathlib.Core.List.{List, [], _∷_, _++_, append-assoc, append-nil, flatMap}
 use Prim.Native.Nat.{ℕ, _+_, _-_, _≤_, _<_}
 use native.Mathlib.Numerals.{add-one}
 use native.Mathlib.Omega.{arith}
 use lib.ListN.{length, getD, take, drop, length-append}
-use lib.Seq.{drop-cons, take-suc, take-add}
+use lib.Seq.{take-suc, take-add}
 
 module _ (f : ℕ → List ℕ) where
   pub pieces-none : flatMap f [] ≡ []
@@ -20,12 +20,6 @@ module _ (f : ℕ → List ℕ) where
   pub pieces-one : (x : ℕ) → flatMap f (x ∷ []) ≡ f x
   unfolding flatMap
   pieces-one x = append-nil (f x)
-
-  -- the next piece of those that are left
-  pub pieces-next : (xs : List ℕ) (i : ℕ) → i < length xs → flatMap f (drop i xs) ≡ f (getD xs i 0) ++ flatMap f (drop (i + 1) xs)
-  unfolding flatMap
-  pieces-next xs i more =
-      ap (flatMap f) (drop-cons xs i 0 more) ∙ ap (λ (n : ℕ). f (getD xs i 0) ++ flatMap f (drop n xs)) (sym (add-one i))
 
   -- one piece more than before
   pub pieces-more : (xs : List ℕ) (i : ℕ) → i < length xs → flatMap f (take (i + 1) xs) ≡ flatMap f (take i xs) ++ f (getD xs i 0)

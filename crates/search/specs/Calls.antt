@@ -10,7 +10,7 @@ use Rattle.table_parikh.specs.Table.{parikh}
 use Rattle.lent.specs.Placed.{placed, shifted}
 use Rattle.lent.specs.Found.{Found}
 use Rattle.lent.specs.declared.SearchCounts.{SearchCounts}
-use Rattle.image_form.specs.Image.{Parts, partsWith, image, saveOrder}
+use Rattle.image_form.specs.Image.{Parts, partsWith, image}
 use Rattle.image_form.specs.Decode.{badForm, partsOf}
 use Rattle.answers.specs.Numbers.{admissionNumber, unlessRefused}
 use Rattle.answers.specs.Answers.{answerNumber, answerFound, answerInspections, savingNumber, savingLength}
@@ -112,7 +112,7 @@ pub record SetsMethod (s : Search) (newMethod : ℕ) (r : SearchResult) : Type 0
 
 -- The image that a save writes
 abbrev pub imageOf : Search → List ℕ
-imageOf s = image saveOrder (partsOfSearch s)
+imageOf s = image (partsOfSearch s)
 
 unfoldable pub saveNumber : Search → List ℕ → ℕ
 saveNumber s buffer = given (saveTests (handedTests s) (length buffer) (length (imageOf s)))

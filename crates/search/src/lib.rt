@@ -98,7 +98,7 @@ impl Search {
         Search::with_parts(pattern, k, method, 0, no_tail)
     }
 
-    // The search that an image holds, whatever the order of its entries.
+    // The search that an image holds.
     pub fn load(bytes: &[u8]) -> SearchResult
         ensures { λ r. ⌜ Loads (now (bytes .entry)) r ⌝ }
     {

@@ -13,7 +13,7 @@ use Rattle.jumbled.proofs.Admission.{given-later, search-fresh}
 use Rattle.jumbled.proofs.Positions as Positions
 use Rattle.lent.specs.Placed.{placed, shifted, FirstPlaces}
 use Rattle.lent.proofs.Placing.{shifted-zero, first-places}
-use Rattle.image_form.specs.Image.{Parts, partsWith, image, saveOrder}
+use Rattle.image_form.specs.Image.{Parts, partsWith, image}
 use Rattle.answers.specs.declared.Answer.{Answer}
 use Rattle.answers.specs.Numbers.{admissionNumber, unlessRefused}
 use Rattle.answers.specs.Answers.{answerNumber, answerFound, answerInspections, savingNumber}
@@ -195,12 +195,12 @@ module _ {P : List ℕ} {k method : ℕ} where
 
       -- and a save for its buffer alone, which needs the room of the ledger's image
       pub save-number : {before after : List ℕ} {r : SaveResult} → Saves s before after r
-          → savingNumber (r .saving) ≡ given (bufferTests (length before) (length (image saveOrder (ledgerParts L))))
+          → savingNumber (r .saving) ≡ given (bufferTests (length before) (length (image (ledgerParts L))))
       unfolding saveNumber saveTests handedNumber
       save-number {before} contract =
           contract .number
           ∙ given-later (handedTests s) (bufferTests (length before) (length (imageOf s))) (handed-numbered s) (holding L current .in-order)
-          ∙ ap (λ (parts : Parts). given (bufferTests (length before) (length (image saveOrder parts)))) parts-known
+          ∙ ap (λ (parts : Parts). given (bufferTests (length before) (length (image parts)))) parts-known
 
       -- the reports, joined, are the listed positions of the text,
       pub reports-listed : L .reported ≡ positions (L .pattern) (L .k) (L .text)

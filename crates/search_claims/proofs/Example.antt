@@ -1,7 +1,7 @@
 -- Series that exist, made of the calls' records: for `ab`, k 0, from a fresh search of method 2. The first is the pencil table of
 -- docs/EXAMINERS.md, row by row; the second has two saves that wrote equal images of different texts.
 use mathlib.Core.Path.{_≡_, refl}
-use mathlib.Core.List.{List, [], _∷_, map, flatMap}
+use mathlib.Core.List.{List, [], _∷_, map}
 use mathlib.Core.Logic.{inl, inr}
 use Prim.Native.Nat.{ℕ}
 use native.Mathlib.Omega.{arith}
@@ -12,8 +12,8 @@ use Rattle.jumbled.specs.Fields.{first, letterWidth, fieldOf, layoutOf, widthOf
 use Rattle.jumbled.specs.Steps.{bamScan, steps}
 use Rattle.jumbled.specs.Refusals.{given, isMethod, exactOnly, lengthTests, toleranceTests, knownTests, exactTests, widthTests, textTests, placeTests, totalTests, tailTests, formTests, bufferTests, methodTests, patternTests, sizeTests, searchTests, chunkTests, feedTests, setMethodTests, saveTests, loadTests}
 use Rattle.lent.specs.Placed.{placed, shifted}
-use Rattle.image_form.specs.Image.{partsWith, lowFirst, body, image, saveOrder}
-use Rattle.image_form.specs.Decode.{fromLowFirst, entriesIn, contents, lengthIn, lengthsBefore, lengths, bodyOf, times, kindsRight, badForm}
+use Rattle.image_form.specs.Image.{partsWith, lowFirst, contents, image}
+use Rattle.image_form.specs.Decode.{fromLowFirst, kindAt, lengthOf, endOf, bodyOf, kindsRight, badForm}
 use Rattle.answers.specs.declared.Refusal.the-variants.{PatternLength, UnknownMethod, Malformed}
 use Rattle.answers.specs.declared.Admission.the-variants as Admission
 use Rattle.answers.specs.declared.Answer.the-variants as Answer
@@ -77,7 +77,7 @@ record Calls : Type 0 where
   load-b : LoadsAs (imageAt 2 98) (searchAt 2 b)
 
 calls : Calls
-unfolding given isMethod exactOnly lengthTests toleranceTests knownTests exactTests widthTests textTests placeTests totalTests tailTests formTests bufferTests methodTests patternTests sizeTests searchTests chunkTests feedTests setMethodTests saveTests loadTests cc sum excess matches select positions scan singles backward first letterWidth fieldOf layoutOf widthOf bits startValue valueOf topSet some overflows bamScan steps placed shifted lowFirst body flatMap image saveOrder fromLowFirst entriesIn contents lengthIn lengthsBefore lengths bodyOf times kindsRight badForm handedTests handedNumber openNumber feedNumber setMethodNumber saveNumber partsTests loadNumber
+unfolding given isMethod exactOnly lengthTests toleranceTests knownTests exactTests widthTests textTests placeTests totalTests tailTests formTests bufferTests methodTests patternTests sizeTests searchTests chunkTests feedTests setMethodTests saveTests loadTests cc sum excess matches select positions scan singles backward first letterWidth fieldOf layoutOf widthOf bits startValue valueOf topSet some overflows bamScan steps placed shifted lowFirst contents image fromLowFirst kindAt lengthOf endOf bodyOf kindsRight badForm handedTests handedNumber openNumber feedNumber setMethodNumber saveNumber partsTests loadNumber
 calls =
     record {
       fresh-search = record { number = refl; search = refl };

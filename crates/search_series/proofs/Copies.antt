@@ -2,7 +2,7 @@
 use mathlib.Core.Path.{_≡_, refl, sym, _∙_}
 use mathlib.Core.List.{List, [], _∷_}
 use Prim.Native.Nat.{ℕ}
-use Rattle.image_form.specs.Image.{image, saveOrder}
+use Rattle.image_form.specs.Image.{image}
 use Rattle.answers.specs.Answers.{savingNumber}
 use Rattle.search.specs.declared.Search.{Search}
 use Rattle.search.specs.declared.SaveResult.{SaveResult}
@@ -13,7 +13,7 @@ use Rattle.search_series.proofs.Ledgers.{SoundLedger, Represents, save-
 
 pub data CopiesInvariant : List Copy → Type 0 where
   none : CopiesInvariant []
-  more : {copy : Copy} {kept : List Copy} → SoundLedger (copy .ledger) → copy .image ≡ image saveOrder (ledgerParts (copy .ledger)) → CopiesInvariant kept
+  more : {copy : Copy} {kept : List Copy} → SoundLedger (copy .ledger) → copy .image ≡ image (ledgerParts (copy .ledger)) → CopiesInvariant kept
       → CopiesInvariant (copy ∷ kept)
 
 -- an accepted save adds one, of the ledger that the search represents
@@ -26,7 +26,7 @@ pub record Meant (bytes : List ℕ) (kept : List Copy) (which : ℕ) : Type 0 wh
   pub ledger : Ledger
   pub back : broughtBack kept which ≡ holds ledger
   pub sound : SoundLedger ledger
-  pub written-as : image saveOrder (ledgerParts ledger) ≡ bytes
+  pub written-as : image (ledgerParts ledger) ≡ bytes
 
 pub copy-meant : {bytes : List ℕ} {kept : List Copy} {which : ℕ} → CopiesInvariant kept → KeptAs bytes kept which → Meant bytes kept which
 copy-meant (more {copy = copy} sound e copies) (latest q) =

@@ -11,9 +11,8 @@ use Rattle.jumbled.specs.Refusals.{given, tailLength, patternTests}
 use Rattle.jumbled.proofs.Admission.{admitted, search-right}
 use Rattle.lent.specs.Placed.{placed, shifted}
 use Rattle.lent.proofs.Placing.{length-shifted}
-use Rattle.image_form.specs.Image.{partsWith, image, saveOrder}
+use Rattle.image_form.specs.Image.{partsWith, image}
 use Rattle.image_form.specs.Decode.{partsOf}
-use Rattle.image_form.proofs.Images.{save-order}
 use Rattle.answers.specs.Numbers.{admissionNumber}
 use Rattle.search.specs.declared.Search.{Search}
 use Rattle.search.specs.declared.SearchResult.{SearchResult}
@@ -197,8 +196,8 @@ module _ {s : Search} {newMethod : ℕ} {r : SearchResult} (contract : SetsMetho
 
 module _ {s : Search} {before after : List ℕ} {r : SaveResult} (contract : Saves s before after r) where
   -- what was written is the image of the ledger
-  pub save-image : {L : Ledger} → Represents L s → savingNumber (r .saving) ≡ 0 → writtenImage after r ≡ image saveOrder (ledgerParts L)
-  save-image {L} now e = save-written contract e ∙ ap imageOf (now .held) ∙ ap (image saveOrder) (parts-stored (ledgerParts L))
+  pub save-image : {L : Ledger} → Represents L s → savingNumber (r .saving) ≡ 0 → writtenImage after r ≡ image (ledgerParts L)
+  save-image {L} now e = save-written contract e ∙ ap imageOf (now .held) ∙ ap (image) (parts-stored (ledgerParts L))
 
   pub save-while-blank : s ≡ blankSearch → savingNumber (r .saving) ≡ 1
   save-while-blank e = contract .number ∙ ap (λ (held : Search). saveNumber held before) e ∙ save-blank before
@@ -207,9 +206,9 @@ module _ {s : Search} {before after : List ℕ} {r : SaveResult} (contract : Sav
 
 module _ {bytes : List ℕ} {r : SearchResult} (contract : Loads bytes r) where
   -- the image of a ledger
-  module _ (L : Ledger) (sound : SoundLedger L) (e : image saveOrder (ledgerParts L) ≡ bytes) where
+  module _ (L : Ledger) (sound : SoundLedger L) (e : image (ledgerParts L) ≡ bytes) where
     load-ok : loadNumber bytes ≡ 0
-    load-ok = ap loadNumber (sym e) ∙ load-taken save-order (ledgerParts L) (sound .taken) (tail-length L) (sound .fits)
+    load-ok = ap loadNumber (sym e) ∙ load-taken (ledgerParts L) (sound .taken) (tail-length L) (sound .fits)
 
     pub load-takes : admissionNumber (r .admission) ≡ 0
     load-takes = contract .number ∙ load-ok
@@ -221,5 +220,5 @@ module _ {bytes : List ℕ} {r : SearchResult} (contract : Loads bytes r) where
           held =
               load-accepted contract load-takes
               ∙ ap (λ (b : List ℕ). stored (partsOf b)) (sym e)
-              ∙ ap stored (load-parts save-order (ledgerParts L) (sound .taken) (tail-length L) (sound .fits));
+              ∙ ap stored (load-parts (ledgerParts L) (sound .taken) (tail-length L) (sound .fits));
         }

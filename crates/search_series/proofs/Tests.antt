@@ -8,7 +8,7 @@ use lib.ListN.{length, replicate}
 use lib.Seq.{take-append-seam}
 use Rattle.jumbled.specs.Refusals.{given, lengthTests, tailLength, formTests, bufferTests, methodTests, patternTests, searchTests, chunkTests, feedTests, setMethodTests, saveTests, loadTests}
 use Rattle.jumbled.proofs.Admission.{given-append-none, Admitted, admitted, method-changed, chunk-taken, search-right, length-again}
-use Rattle.image_form.specs.Image.{Parts, partsWith, image, IsOrder, Sized}
+use Rattle.image_form.specs.Image.{Parts, partsWith, image, Sized}
 use Rattle.image_form.specs.Decode.{partsOf}
 use Rattle.image_form.proofs.Images.{image-taken, parts-back}
 use Rattle.search.specs.declared.Search.{Search}
@@ -74,20 +74,20 @@ pub save-blank : (buffer : List ℕ) → saveNumber blankSearch buffer ≡ 1
 unfolding saveNumber saveTests handedTests lengthTests given
 save-blank buffer = refl
 
--- ---- load gets an image, in whatever order
+-- ---- load gets an image
 
-module _ {order : List ℕ} (o : IsOrder order) (parts : Parts) (pattern-admitted : given (patternTests (parts .pattern) (parts .k) (parts .method)) ≡ 0)
+module _ (parts : Parts) (pattern-admitted : given (patternTests (parts .pattern) (parts .k) (parts .method)) ≡ 0)
     (tail-right : length (parts .tail) ≡ tailLength (length (parts .pattern)) (parts .total)) (total-fits : parts .total < 2 ^ 32) where
-  sized : Sized parts
+  pub sized : Sized parts
   sized =
       let a : Admitted (parts .pattern) (parts .k) (parts .method) = admitted (parts .pattern) (parts .k) (parts .method) pattern-admitted in
       record { pattern-short = omega arith; tail-short = omega arith; total-fits = total-fits }
 
-  pub load-parts : partsOf (image order parts) ≡ parts
-  load-parts = parts-back o sized
+  pub load-parts : partsOf (image parts) ≡ parts
+  load-parts = parts-back sized
 
-  pub load-taken : loadNumber (image order parts) ≡ 0
+  pub load-taken : loadNumber (image parts) ≡ 0
   unfolding loadNumber loadTests formTests given partsTests
   load-taken =
-      ap₂ (λ (bad : Bool) (p : Parts). given (loadTests bad (partsTests p))) (image-taken o sized) load-parts
+      ap₂ (λ (bad : Bool) (p : Parts). given (loadTests bad (partsTests p))) (image-taken sized) load-parts
       ∙ search-right (parts .pattern) (parts .k) (parts .method) (parts .total) (length (parts .tail)) pattern-admitted tail-right

@@ -1,67 +1,61 @@
 -- `image_read::kinds_right` meets its contract: a test a kind.
-use mathlib.Core.Path.{refl, ap}
-use Prim.Native.Nat.{ℕ}
+use mathlib.Core.Path.{_≡_, refl}
+use mathlib.Core.Bool.{true}
+use borrow.Author.Tests.{eq-eqb, ne-eqb}
 use lib.Dec.{eqb}
-use Rattle.image_form.specs.Decode.{kindsRight}
-use Rattle.image_form.proofs.Contents.{equal-known, differs-known}
+use lib.ListN.{getD}
+use Rattle.image_form.specs.Decode.{kindAt, kindsRight}
 use borrow.Author.Needs.{needs}
 use Rattle.image_read.proofs.kinds_right.Statement.{statement}
 use Rattle.image_read.proofs.kinds_right.Tie as tie
 
-times-of-requires : tie.Need-times-of-requires
-times-of-requires c κs = search needs
+-- what the tests so far have shown
+past-1 : (c : tie.Else1) → eqb (getD (c .before .before .args .image .now) 1 0) 1 ≡ true
+past-1 c = eq-eqb _ 1 (c .if1 .left)
+
+past-2 : (c : tie.Else2) → eqb (getD (c .before .before .before .before .args .image .now) 4 0) 2 ≡ true
+past-2 c = eq-eqb _ 2 (c .if2 .left)
+
+past-3 : (c : tie.Else3) → eqb (getD (c .before .before .before .before .before .before .args .image .now) 7 0) 3 ≡ true
+past-3 c = eq-eqb _ 3 (c .if3 .left)
+
+shared-slice-read-if1 : tie.Need-shared-slice-read-if1
+shared-slice-read-if1 c = search needs
 
 returns : tie.Need-returns
-unfolding kindsRight
-returns c = rw (differs-known 1 (c .before .times-of .ensures) (c .if1 .taken)) refl
+unfolding kindsRight kindAt
+returns c = rw (ne-eqb _ 1 (c .if1 .taken)) refl
 
-times-of-requires-2 : tie.Need-times-of-requires-2
-times-of-requires-2 c κs = search needs
+shared-slice-read-if2 : tie.Need-shared-slice-read-if2
+shared-slice-read-if2 c = search needs
 
 returns-2 : tie.Need-returns-2
-unfolding kindsRight
-returns-2 c =
-    rw (
-      equal-known 1 (c .before .before .before .times-of .ensures) (c .before .before .if1 .left),
-      differs-known 1 (c .before .times-of2 .ensures) (c .if2 .taken),
-    )
-    refl
+unfolding kindsRight kindAt
+returns-2 c = rw (past-1 (c .before .before), ne-eqb _ 2 (c .if2 .taken)) refl
 
-times-of-requires-3 : tie.Need-times-of-requires-3
-times-of-requires-3 c κs = search needs
+shared-slice-read-if3 : tie.Need-shared-slice-read-if3
+shared-slice-read-if3 c = search needs
 
 returns-3 : tie.Need-returns-3
-unfolding kindsRight
-returns-3 c =
-    rw (
-      equal-known 1 (c .before .before .before .before .before .times-of .ensures) (c .before .before .before .before .if1 .left),
-      equal-known 1 (c .before .before .before .times-of2 .ensures) (c .before .before .if2 .left),
-      differs-known 1 (c .before .times-of3 .ensures) (c .if3 .taken),
-    )
-    refl
+unfolding kindsRight kindAt
+returns-3 c = rw (past-1 (c .before .before .before .before), past-2 (c .before .before), ne-eqb _ 3 (c .if3 .taken)) refl
 
-times-of-requires-4 : tie.Need-times-of-requires-4
-times-of-requires-4 c κs = search needs
+shared-slice-read-result : tie.Need-shared-slice-read-result
+shared-slice-read-result c = search needs
 
 returns-4 : tie.Need-returns-4
-unfolding kindsRight
-returns-4 c =
-    rw (
-      equal-known 1 (c .before .before .before .before .before .before .times-of .ensures) (c .before .before .before .before .before .if1 .left),
-      equal-known 1 (c .before .before .before .before .times-of2 .ensures) (c .before .before .before .if2 .left),
-      equal-known 1 (c .before .before .times-of3 .ensures) (c .before .if3 .left),
-    )
-    (ap (λ (n : ℕ). eqb n 1) (c .times-of4 .ensures))
+unfolding kindsRight kindAt
+returns-4 c = rw (past-1 (c .before .before .before .before .before), past-2 (c .before .before .before), past-3 (c .before)) refl
 
 pub kinds-right-spec : {M : Type 1} → statement M
 kinds-right-spec =
     tie.close
     (tie.spec
-    times-of-requires
+    shared-slice-read-if1
     returns
-    times-of-requires-2
+    shared-slice-read-if2
     returns-2
-    times-of-requires-3
+    shared-slice-read-if3
     returns-3
-    times-of-requires-4
+    shared-slice-read-result
     returns-4)

@@ -1,35 +1,15 @@
--- `image_write::encode` meets its contract: the first byte, the entries and the bodies, each written after the other.
-use mathlib.Core.Path.{_≡_, ap, _∙_}
-use mathlib.Core.List.{List, flatMap}
-use Prim.Native.Nat.{ℕ, _≤_}
-use native.Mathlib.Omega.{arith}
-use lib.ListN.{length}
-use Rattle.image_form.specs.Image.{body, partsWith, saveOrder}
-use Rattle.image_write.specs.Bodies.{bodyFrom}
-use Rattle.image_form.proofs.Numbers.{length-lowFirst}
-use Rattle.image_form.proofs.Images.{length-entries, length-in-order, save-order}
-use Rattle.lent.proofs.Writing.{written-length}
-use Rattle.image_write.proofs.Bodies.{body-written}
+-- `image_write::encode` meets its contract: the contents and the bodies, each written after the other.
+use Rattle.image_form.specs.Image.{partsWith}
 use Rattle.image_write.proofs.Writing.{written-image}
 use borrow.Author.Needs.{needs}
 use Rattle.image_write.proofs.encode.Statement.{statement}
 use Rattle.image_write.proofs.encode.Tie as tie
 
--- the six bytes, and the bodies with them
-six : (c : tie.After-numbers-of) → length (c .numbers-of .result) ≡ 6
-six c = let args = c .before .before .before .before .args in omega (arith, ap length (c .numbers-of .ensures), length-lowFirst 4 (args .total))
+contents-of-requires : tie.Need-contents-of-requires
+contents-of-requires c κs = search needs
 
-bodies-written : (c : tie.After-numbers-of)
-    → let args = c .before .before .before .before .args in
-    bodyFrom (args .pattern .now) (c .numbers-of .result) (args .tail .now)
-    ≡ body (partsWith (args .pattern .now) (args .k) (args .method) (args .total) (args .tail .now))
-bodies-written c =
-    let args = c .before .before .before .before .args in
-    ap (λ (numbers : List ℕ). bodyFrom (args .pattern .now) numbers (args .tail .now)) (c .numbers-of .ensures)
-    ∙ body-written (args .pattern .now) (args .k) (args .method) (args .total) (args .tail .now)
-
-numbers-of-requires : tie.Need-numbers-of-requires
-numbers-of-requires c κs = search needs
+low-first-requires : tie.Need-low-first-requires
+low-first-requires c κs = search needs
 
 slice-aggregate-copy-in : tie.Need-slice-aggregate-copy-in
 slice-aggregate-copy-in c = search needs
@@ -37,71 +17,61 @@ slice-aggregate-copy-in c = search needs
 copy-in-requires : tie.Need-copy-in-requires
 copy-in-requires c κs = search needs
 
-slice-aggregate-put-entries : tie.Need-slice-aggregate-put-entries
-slice-aggregate-put-entries c = search needs
+copy-in-requires-2 : tie.Need-copy-in-requires-2
+copy-in-requires-2 c κs = search needs
 
-put-entries-requires : tie.Need-put-entries-requires
-put-entries-requires c κs =
-    let args = c .before .before .before .before .before .before .before .before .before .before .before .args in
-    let numbers = c .before .before .before .before .before .before .before .numbers-of .result in
-    let f = bodyFrom (args .pattern .now) numbers (args .tail .now) in
-    let first = c .before .before .before .before .copy-in .ensures in
-    record {
-      six = six (c .before .before .before .before .before .before .before);
-      room = omega (arith, length-entries f saveOrder, save-order .four, first .place, written-length first (omega arith));
-    }
+slice-aggregate-copy-in-2 : tie.Need-slice-aggregate-copy-in-2
+slice-aggregate-copy-in-2 c = search needs
 
-slice-aggregate-put-bodies : tie.Need-slice-aggregate-put-bodies
-slice-aggregate-put-bodies c = search needs
+copy-in-requires-3 : tie.Need-copy-in-requires-3
+copy-in-requires-3 c κs = search needs
 
-put-bodies-requires : tie.Need-put-bodies-requires
-put-bodies-requires c κs =
-    let args = c .before .before .before .before .before .before .before .before .before .before .before .before .before .before .before .before .args in
-    let numbers = c .before .before .before .before .before .before .before .before .before .before .before .before .numbers-of .result in
-    let f = bodyFrom (args .pattern .now) numbers (args .tail .now) in
-    let first = c .before .before .before .before .before .before .before .before .before .copy-in .ensures in
-    let second = c .before .before .before .before .put-entries .ensures in
-    let room = put-entries-requires (c .before .before .before .before .before) (c .before .before .before .before .put-entries .lifetimes) .room in
-    record {
-      six = six (c .before .before .before .before .before .before .before .before .before .before .before .before);
-      room =
-          omega (
-            arith,
-            length-entries f saveOrder,
-            save-order .four,
-            ap (λ (g : ℕ → List ℕ). length (flatMap g saveOrder)) (bodies-written (c .before .before .before .before .before .before .before .before .before .before .before .before)),
-            length-in-order (partsWith (args .pattern .now) (args .k) (args .method) (args .total) (args .tail .now)) save-order,
-            first .place,
-            second .place,
-            written-length first (omega arith),
-            written-length second room,
-          );
-    }
+slice-aggregate-copy-in-3 : tie.Need-slice-aggregate-copy-in-3
+slice-aggregate-copy-in-3 c = search needs
+
+copy-in-requires-4 : tie.Need-copy-in-requires-4
+copy-in-requires-4 c κs = search needs
+
+copy-in-requires-5 : tie.Need-copy-in-requires-5
+copy-in-requires-5 c κs = search needs
 
 same-length : tie.Need-same-length
 same-length c = search needs
 
 returns : tie.Need-returns
 returns c =
-    let third = c .before .before in
+    let fifth = c .before .before in
+    let fourth = fifth .before .before .before .before in
+    let third = fourth .before .before .before .before .before in
     let second = third .before .before .before .before .before in
-    let first = second .before .before .before .before .before in
-    let start = first .before .before .before .before .before .before .before in
-    let room : 1 ≤ length (start .args .buffer .now) = omega (arith, start .pre .room) in
-    let parts = partsWith (start .args .pattern .now) (start .args .k) (start .args .method) (start .args .total) (start .args .tail .now) in
-    written-image parts (bodies-written (first .before .before .before)) (first .copy-in .ensures) (second .put-entries .ensures) (third .put-bodies .ensures) room
-    (put-entries-requires (second .before) (second .put-entries .lifetimes) .room)
+    let first = second .before .before .before .before in
+    let numbered = first .before .before .before in
+    let headed = numbered .before in
+    let start = headed .before .before .before .before in
+    let args = start .args in
+    written-image (partsWith (args .pattern .now) (args .k) (args .method) (args .total) (args .tail .now))
+    (headed .contents-of .ensures)
+    (numbered .low-first .ensures)
+    (first .copy-in .ensures)
+    (second .copy-in2 .ensures)
+    (third .copy-in3 .ensures)
+    (fourth .copy-in4 .ensures)
+    (fifth .copy-in5 .ensures)
+    (start .pre .room)
 
 pub encode-spec : {M : Type 1} → statement M
 encode-spec =
     tie.close
     (tie.spec
-    numbers-of-requires
+    contents-of-requires
+    low-first-requires
     slice-aggregate-copy-in
     copy-in-requires
-    slice-aggregate-put-entries
-    put-entries-requires
-    slice-aggregate-put-bodies
-    put-bodies-requires
+    copy-in-requires-2
+    slice-aggregate-copy-in-2
+    copy-in-requires-3
+    slice-aggregate-copy-in-3
+    copy-in-requires-4
+    copy-in-requires-5
     same-length
     returns)

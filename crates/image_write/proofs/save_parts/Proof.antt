@@ -4,8 +4,8 @@ use Prim.Native.Nat.{_+_}
 use native.Mathlib.Omega.{arith}
 use lib.ListN.{length}
 use borrow.Author.Needs.{needs}
-use Rattle.image_form.specs.Image.{Parts, partsWith, image, saveOrder}
-use Rattle.image_form.proofs.Images.{length-image, save-order}
+use Rattle.image_form.specs.Image.{Parts, partsWith, image}
+use Rattle.image_form.proofs.Images.{length-image}
 use Rattle.image_write.proofs.Savings.{saved-short, saved-written}
 use Rattle.image_write.proofs.save_parts.Statement.{statement}
 use Rattle.image_write.proofs.save_parts.Tie as tie
@@ -14,8 +14,8 @@ use Rattle.image_write.proofs.save_parts.Tie as tie
 abbrev parts : tie.Start → Parts
 parts s = partsWith (s .args .pattern .now) (s .args .k) (s .args .method) (s .args .total) (s .args .tail .now)
 
-long : (s : tie.Start) → length (image saveOrder (parts s)) ≡ 13 + 6 + length (s .args .pattern .now) + length (s .args .tail .now)
-long s = omega (arith, length-image (parts s) save-order)
+long : (s : tie.Start) → length (image (parts s)) ≡ 13 + 6 + length (s .args .pattern .now) + length (s .args .tail .now)
+long s = omega (arith, length-image (parts s))
 
 image-length-requires : tie.Need-image-length-requires
 image-length-requires c κs = search needs

@@ -1,6 +1,7 @@
 -- `search::Search::load` meets its contract.
 use mathlib.Core.Path.{_≡_, sym, _∙_}
 use mathlib.Core.Bool.{false}
+use native.Mathlib.Omega.{arith}
 use borrow.Author.Tests.{not-true, not-false}
 use Rattle.image_form.specs.Decode.{badForm}
 use Rattle.search.proofs.Images.{loaded-bad, loaded-good}
@@ -22,7 +23,7 @@ returns c =
     (not-false (badForm (c .before .before .before .args .bytes .now)) (sym (c .before .well-formed .ensures) ∙ not-true (c .before .well-formed .result) (c .if1 .taken)))
 
 body-of-requires : tie.Need-body-of-requires
-body-of-requires c κs = formed c
+body-of-requires c κs = (formed c, omega arith, omega arith)
 
 tolerance-requires : tie.Need-tolerance-requires
 tolerance-requires c κs = formed (c .before)
@@ -34,7 +35,7 @@ total-requires : tie.Need-total-requires
 total-requires c κs = formed (c .before .before .before)
 
 body-of-requires-2 : tie.Need-body-of-requires-2
-body-of-requires-2 c κs = formed (c .before .before .before .before)
+body-of-requires-2 c κs = (formed (c .before .before .before .before), omega arith, omega arith)
 
 with-parts-requires : tie.Need-with-parts-requires
 with-parts-requires c κs = search needs
