@@ -5,8 +5,8 @@ with the sheet of small records.
     python3 tools/compare.py path/to/mixlist
 
 Four parts, all made from one fixed seed: (a) the sheet, the widths under it
-and the examples of the refusals against reference.py, and method 6 and the
-marked sheet against other descriptions of them; (b) made inputs run
+and the examples of the refusals against reference.py, and method 6, lost
+hours and the marked sheet against other descriptions of them; (b) made inputs run
 through mixlist, once per input, and its output compared byte for byte with
 the reference's; (c) inputs around the longest one, read by mixlist from a
 file and from a pipe that delivers them in pieces; (d) series of feeds, saves,
@@ -187,6 +187,8 @@ def check_examples(tally):
     tally.same("4, method 6", ref.open_search(b"ab", 1, 6), (4, ref.BLANK))
     tally.same("64 letters, method 6", ref.open_search(letters(64), 0, 6)[0], 0)
     tally.same("5", ref.open_search(letters(32), 0, 2), (5, ref.BLANK))
+    tally.same("13", ref.open_search(b"a-", 0, 1), (13, ref.BLANK))
+    tally.same("13, program", ref.program_output(b"1 2 a-\na\n"), b"refused 13\n")
     places = [7] * 65537
     tally.same(
         "6, whole search",
@@ -217,6 +219,10 @@ def check_examples(tally):
     for what, wrong, number in (
         ("pattern of 65", ref.Search(b"a" * 65, 65, 7, 9, b""), 1),
         ("no pattern", ref.BLANK, 1),
+        ("65 with a lost hour", ref.Search(b"a" * 64 + b"-", 65, 7, 9, b""), 1),
+        ("a lost hour", ref.Search(b"a-", 0, 1, 9, b"a"), 13),
+        ("a lost hour, k of m", ref.Search(b"-b", 2, 7, 9, b""), 13),
+        ("a lost hour, 65 bits", ref.Search(letters(31) + b"-", 0, 2, 9, b""), 13),
         ("k of m", ref.Search(b"ab", 2, 7, 9, b""), 2),
         ("k of m, method 6", ref.Search(b"ab", 2, 6, 9, b""), 2),
         ("method 0", ref.Search(b"ab", 1, 0, 9, b""), 3),
@@ -243,10 +249,11 @@ def check_examples(tally):
 
 def windows_of_method_6(pattern, text):
     """Each window that method 6 comes to, with the offset in it of the last reading
-    that the pattern lacks, which is None if there is none."""
+    that the pattern lacks, which is None if there is none.  A lost hour isn't one."""
     m, s = len(pattern), 0
+    known = set(pattern) | {ref.LOST}
     while s + m <= len(text):
-        lacking = max((j for j in range(m) if text[s + j] not in pattern), default=None)
+        lacking = max((j for j in range(m) if text[s + j] not in known), default=None)
         yield s, lacking
         s += 1 if lacking is None else lacking + 1
 
@@ -254,6 +261,18 @@ def windows_of_method_6(pattern, text):
 def looks_of_method_6(pattern, text):
     m = len(pattern)
     return sum(2 * m if at is None else m - at for _, at in windows_of_method_6(pattern, text))
+
+
+def taken_from(window, pattern):
+    """Whether the readings of a window but for its lost hours are some of the
+    pattern's, which makes it a match for k = 0."""
+    left = list(pattern)
+    for c in window:
+        if c != ref.LOST:
+            if c not in left:
+                return False
+            left.remove(c)
+    return True
 
 
 def check_method_6(tally, rng):
@@ -267,9 +286,103 @@ def check_method_6(tally, rng):
         text += shuffled(rng, pattern)[: rng.randrange(m + 1)]
         positions, looks = ref.steps_exact_backward(pattern, 0, text)
         verified = [s for s, at in windows_of_method_6(pattern, text) if at is None]
-        matching = [s for s in verified if sorted(text[s : s + m]) == sorted(pattern)]
+        matching = [s for s in verified if taken_from(text[s : s + m], pattern)]
         what = "method 6 of %r, text %r" % (pattern, text)
         tally.same(what, (positions, looks), (matching, looks_of_method_6(pattern, text)))
+
+
+def stop_of(window, pattern, k, method):
+    """The offset at which methods 2, 3 and 4 leave a window, None if they don't: the
+    first, from the right, from which on the window has an excess above k.  Pairs are
+    asked at the left one of two only, and at offset 0."""
+    m = len(window)
+    asked = range(m - 1, -1, -1)
+    if method == 3:
+        asked = [at for at in asked if (m - at) % 2 == 0 or at == 0]
+    return next((at for at in asked if ref.excess(window[at:], pattern) > k), None)
+
+
+def windows_of(pattern, k, method, text):
+    """Each window that a method comes to, with the offset at which it is left early,
+    None if it isn't."""
+    m, s = len(pattern), 0
+    if method == 6:
+        yield from windows_of_method_6(pattern, text)
+        return
+    while s + m <= len(text):
+        stop = stop_of(text[s : s + m], pattern, k, method) if method in (2, 3, 4) else None
+        yield s, stop
+        s += 1 if stop is None else stop + 1
+
+
+def candidates(pattern, text):
+    """The windows whose sum of heap values, modulo 2^64, is the pattern's."""
+    m = len(pattern)
+    value = {c: (m + 1) ** i for i, c in enumerate(sorted(set(pattern)))}
+    sums = [sum(value.get(c, 0) for c in text[s : s + m]) for s in range(len(text) - m + 1)]
+    own = sum(value[c] for c in pattern)
+    return [s for s, total in enumerate(sums) if (total - own) % 2**64 == 0]
+
+
+def looks_of(pattern, k, method, text):
+    """By the windows that the method comes to, and those that it verifies."""
+    m, n = len(pattern), len(text)
+    if method in (1, 5):
+        lost = {s for s in range(n - m + 1) if ref.LOST in text[s : s + m]}
+        equal = set() if ref.heap_is_exact(pattern) else set(candidates(pattern, text))
+        return (n if n >= m else 0) + (m * len(lost | equal) if method == 5 else 0)
+    if method == 6:
+        return looks_of_method_6(pattern, text)
+    return sum(m - (stop or 0) for _, stop in windows_of(pattern, k, method, text))
+
+
+# Pattern, k, text with lost hours, positions, looks by method, worked out by hand.
+LOST_HOURS = [
+    (b"abc", 0, b"a-c", [0], {1: 3, 2: 3, 3: 3, 4: 3, 5: 6, 6: 6}),
+    (b"ab", 0, b"--", [0], {1: 2, 2: 2, 3: 2, 4: 2, 5: 4, 6: 4}),
+    (b"ab", 0, b"-xb", [], {1: 3, 2: 1, 3: 4, 4: 1, 5: 5, 6: 1}),
+    (b"ab", 0, b"b-ba", [0, 1, 2], {1: 4, 2: 6, 3: 6, 4: 6, 5: 8, 6: 12}),
+    (b"aab", 0, b"-bb-", [], {1: 4, 2: 2, 3: 2, 4: 2, 5: 10, 6: 12}),
+    (b"aabb", 1, b"-xxb", [], {1: 4, 4: 3}),
+    (b"aabb", 1, b"b-xb", [0], {1: 4, 4: 4}),
+    (b"a", 0, b"-", [0], {1: 1, 2: 1, 3: 1, 4: 1, 5: 2, 6: 2}),
+]
+
+
+def check_lost_hours(tally, rng):
+    """By hand; that the excess of a right part never shrinks when a reading joins it
+    on the left, and grows by none that is lost; every method against the other
+    descriptions, on texts with few lost hours, with many, and of hardly anything
+    else."""
+    for pattern, k, text, positions, looks in LOST_HOURS:
+        for method in looks:
+            places = [77] * (len(text) + 1)
+            seen = ref.whole_search(pattern, k, method, text, places)
+            what = "%r in %r, k %d, method %d" % (pattern, text, k, method)
+            tally.same(what, seen, (0, len(positions), looks[method]))
+            tally.same(what + ", list", places[: len(positions)], positions)
+    for number in range(1500):
+        m = rng.choice((1, 2, 3, 4, 5, 8, 23, 31))
+        pattern = make_pattern(rng, m, rng.choice((1, 2, 3, 64)))
+        k = rng.choice((0, rng.randrange(m)))
+        text = make_text(rng, pattern, k, rng.randrange(3 * m + 9))
+        text = lost_in(rng, text, (0.05, 0.3, 0.9)[number % 3])
+        for at in range(len(text)):
+            grown = ref.excess(text[at:], pattern) - ref.excess(text[at + 1 :], pattern)
+            allowed = (0,) if text[at] == ref.LOST else (0, 1)
+            tally.same("excess of %r from %d on, %r" % (text, at, pattern), grown in allowed, True)
+        for method in METHODS:
+            if ref.refuse_terms(pattern, k, method):
+                continue
+            positions, looks = ref.by_steps(pattern, k, method, text)
+            windows = windows_of(pattern, k, method, text)
+            passed = [s for s, stop in windows if stop is None]
+            if k == 0:
+                passed = [s for s in passed if taken_from(text[s : s + m], pattern)]
+            elif method == 1:
+                passed = ref.listed_positions(pattern, k, text)
+            what = "method %d of %r, k %d, text %r" % (method, pattern, k, text)
+            tally.same(what, (positions, looks), (passed, looks_of(pattern, k, method, text)))
 
 
 def image_in_order(search, order):
@@ -320,7 +433,8 @@ MARKED = [
     (b"abc", 0, b"abcxxxabc", [b"         0 abc", b"         6 abc"]),
     (b"\n ", 0, b"a \n!\n \x0c", [b"         1 ..", b"         4 .."]),
     (b"~a", 1, b"..~\x7f", [b"         1 .~", b"         2 ~."]),
-    (b"-", 0, b"0123456789-", [b"        10 -"]),
+    (b"+", 0, b"0123456789+", [b"        10 +"]),
+    (b"abc", 0, b"a-ca-x", [b"         0 a-c", b"         1 -ca", b"         2 ca-"]),
     (b"ab", 0, b"a", []),
 ]
 
@@ -380,7 +494,7 @@ def check_marked_sheets(tally, rng):
         m = rng.choice((1, 2, 3, 5, 63, 64, 65))
         pattern = make_pattern(rng, m, rng.randrange(1, 40))
         k = rng.choice((0, rng.randrange(m + 1)))
-        text = make_text(rng, pattern, k, rng.randrange(2 * m + 9))
+        text = lossy(rng, make_text(rng, pattern, k, rng.randrange(2 * m + 9)))
         places = max(len(text) + rng.choice((-1, 0, 3)), 0)
         marked_alike(tally, pattern, k, rng.randrange(1, 8), text, rng.choice((-1, 0, 5)), places)
 
@@ -398,15 +512,24 @@ def shuffled(rng, some):
     return bytes(some)
 
 
-def other_than_newline(rng):
-    c = rng.randrange(255)
-    return c + 1 if c >= 10 else c
+# What can be in a pattern that the program takes: no newline, and no lost hour.
+PATTERN_BYTES = bytes(c for c in range(256) if c not in b"\n-")
 
 
 def make_pattern(rng, m, most_letters):
-    """m bytes from at most that many letters, never a newline."""
-    pool = [other_than_newline(rng) for _ in range(max(1, most_letters))]
+    """m bytes from at most that many letters."""
+    pool = [rng.choice(PATTERN_BYTES) for _ in range(max(1, most_letters))]
     return bytes(rng.choice(pool) for _ in range(m))
+
+
+def lost_in(rng, text, share):
+    """The text with about that share of its readings lost."""
+    return bytes(ref.LOST if rng.random() < share else c for c in text)
+
+
+def lossy(rng, text):
+    """As it is, or with few or many lost hours."""
+    return lost_in(rng, text, rng.choice((0, 0, 0.04, 0.15, 0.5)))
 
 
 def make_text(rng, pattern, k, length):
@@ -473,11 +596,13 @@ def newline_inputs(rng):
 
 
 def byte_inputs(rng):
-    """Every byte value as a pattern of its own, and beside its neighbours."""
+    """Every byte value as a pattern of its own, beside its neighbours, and beside a
+    pattern's letter and a lost hour."""
     for c in range(256):
         near = bytes([c, (c + 1) % 256, (c - 1) % 256, c, c, c ^ 128])
         for method in METHODS:
             yield line(method, 0, bytes([c])) + near + b"\n"
+            yield line(method, 0, b"aa") + bytes([97, c, 97, 45, c, 45]) + b"\n"
         yield line(4, 1, bytes([c, c, (c + 1) % 256])) + near * 3
         yield line(1 + c % 6, 0, bytes([c, c ^ 128])) + near * 3
     for method in METHODS:
@@ -490,17 +615,17 @@ def grid_inputs(rng):
         for k in range(m):
             most = rng.choice((1, 2, 3, 5, 6, 7))
             pattern = make_pattern(rng, m, most)
-            short = make_text(rng, pattern, k, rng.randrange(m))
-            equal = make_text(rng, pattern, k, m)
-            one_less = make_text(rng, pattern, k, m - 1)
-            long = make_text(rng, pattern, k, m + 1 + rng.randrange(70))
+            short = lossy(rng, make_text(rng, pattern, k, rng.randrange(m)))
+            equal = lossy(rng, make_text(rng, pattern, k, m))
+            one_less = lossy(rng, make_text(rng, pattern, k, m - 1))
+            long = lossy(rng, make_text(rng, pattern, k, m + 1 + rng.randrange(70)))
             for method in METHODS if k == 0 else (1, 4):
                 for text in (short, one_less, equal, long):
                     yield line(method, k, pattern) + text + rng.choice((b"", b"\n"))
         for _ in range(25):
             most = rng.choice((1, 2, 4, 8, 9, 10, 11, 12, 14, 31))
             pattern = make_pattern(rng, m, most)
-            long = make_text(rng, pattern, 0, m + rng.randrange(70))
+            long = lossy(rng, make_text(rng, pattern, 0, m + rng.randrange(70)))
             for method in METHODS:
                 yield line(method, 0, pattern) + long + rng.choice((b"", b"\n"))
 
@@ -509,8 +634,10 @@ def random_inputs(rng):
     for _ in range(500):
         m = rng.choice((rng.randrange(1, 9), rng.randrange(1, 65)))
         pattern = make_pattern(rng, m, rng.choice((1, 2, 3, 4, 8, 16)))
+        if rng.randrange(16) == 0:
+            pattern = lost_in(rng, pattern, 0.2)
         k = rng.choice((0, rng.randrange(m), rng.randrange(min(m, 4))))
-        text = make_text(rng, pattern, k, rng.randrange(60 + m))
+        text = lossy(rng, make_text(rng, pattern, k, rng.randrange(60 + m)))
         for method in (1, 4) if k else METHODS:
             yield line(method, k, pattern) + text + rng.choice((b"", b"\n"))
 
@@ -562,7 +689,7 @@ def heap_inputs(rng):
                  (47, 15), (63, 9), (63, 10), (63, 11), (63, 12), (63, 16), (63, 63),
                  (64, 10), (64, 11), (64, 64)):
         for _ in range(4):
-            pool = sorted(rng.sample([c for c in range(256) if c != 10], q))
+            pool = sorted(rng.sample(list(PATTERN_BYTES), q))
             pattern = bytes(pool) + bytes(rng.choice(pool) for _ in range(m - q))
             text = b""
             for _ in range(3):
@@ -575,6 +702,7 @@ def heap_inputs(rng):
                 text += shuffled(rng, pattern)[: rng.randrange(m)]
             text += shuffled(rng, pattern)
             yield line(5, 0, pattern) + text + b"\n"
+            yield line(5, 0, pattern) + lost_in(rng, text, 0.02) + b"\n"
 
 
 def known_letter_inputs(rng):
@@ -596,6 +724,48 @@ def known_letter_inputs(rng):
         yield line(method, k, b"abc") + b"abcbax\n"
 
 
+def lost_hour_inputs(rng):
+    """A lost hour at each place of a window that matches without it, and of one that
+    has a reading too many on either side; texts of nothing else; top bits of method 4
+    that are set before one; a pattern with one at each of its places, also where
+    another number would follow, or comes first."""
+    for m in (1, 2, 3, 4, 5, 8):
+        pattern = repeating(b"abcd", m)
+        for at, method in itertools.product(range(m), METHODS):
+            gone = pattern[:at] + b"-" + pattern[at + 1 :]
+            yield line(method, 0, pattern) + gone
+            yield line(method, 0, pattern) + b"x" + gone[1:] + gone[:-1] + b"x" + gone
+            yield line(method, 0, gone) + pattern
+    for m, k, method in itertools.product((1, 2, 3, 8, 63, 64), (0, 1, 2, 7), METHODS):
+        if k < m and (k == 0 or method in (1, 4)):
+            for n in (m - 1, m, m + 9):
+                yield line(method, k, repeating(b"ab", m)) + b"-" * n
+    for k in (1, 2, 3, 4):
+        for errors, gone in itertools.product(range(k + 2), (1, 2)):
+            for wrong in (b"x" * errors, b"f" * errors, (b"xf" * errors)[:errors]):
+                window = (b"abcd" + b"-" * gone + wrong + b"f")[-6:].rjust(6, b"y")
+                yield line(4, k, b"abcdef") + window
+                yield line(4, k, b"abcdef") + window + b"x" + window + b"-"
+    for pattern in (b"-", b"a-", b"-" * 64, b"-" * 65, b"a" * 64 + b"-", letters(40) + b"-"):
+        for method, k in itertools.product(range(10), (0, 1, len(pattern) % 100)):
+            yield line(method, k, pattern) + b"a-b"
+    for first in (b"- 0 ab\n", b"1 - ab\n", b"1 00 a-\n", b"1 -1 a-\n", b"1 0 a-", b"7 0 a-\n"):
+        yield first
+        yield first * 4000
+    for _ in range(150):
+        m = rng.choice((2, 3, 5, 9, 16, 31, 63))
+        pattern = make_pattern(rng, m, rng.choice((2, 3, 15, 40)))
+        k = rng.choice((0, 0, rng.randrange(m)))
+        share = rng.choice((0.02, 0.1, 0.3, 0.7, 0.95))
+        text = lost_in(rng, make_text(rng, pattern, k, m + rng.randrange(70)), share)
+        for method in METHODS if k == 0 else (1, 4):
+            yield line(method, k, pattern) + text
+
+
+def repeating(unit, length):
+    return (unit * length)[:length]
+
+
 def size_inputs(rng):
     """Both sides of refusal 6, and refusal 6 before 11 and 1 to 5."""
     for size in (16383, 16384, 16385, 16386, 20000, 32768, 65536, 65537, 70000):
@@ -606,6 +776,8 @@ def size_inputs(rng):
             (b"4 1 abcd\n", b"abxdcbad\n"),
             (b"5 0 abc\n", b"cabx"),
             (b"6 0 abc\n", b"cabxbb"),
+            (b"5 0 abc\n", b"ca-b"),
+            (b"1 0 a-\n", b"a"),
             (b"1 0 ", b"a"),
             (b"1 2 ab\n", b"a"),
             (b"7 0 ab\n", b"a"),
@@ -626,10 +798,12 @@ def long_inputs(rng):
         (1, 5, 64, 40), (2, 0, 20, 4), (3, 0, 21, 4), (4, 3, 24, 4), (5, 0, 63, 12), (6, 0, 64, 60),
     ):
         pattern = make_pattern(rng, m, most)
-        yield line(method, k, pattern) + make_text(rng, pattern, k, 3000) + b"\n"
+        text = make_text(rng, pattern, k, 3000)
+        yield line(method, k, pattern) + text + b"\n"
+        yield line(method, k, pattern) + lost_in(rng, text, 0.1) + b"\n"
     for method in METHODS:
         pattern = make_pattern(rng, 3, 2)
-        yield line(method, 0, pattern) + make_text(rng, pattern, 0, 2000)
+        yield line(method, 0, pattern) + lost_in(rng, make_text(rng, pattern, 0, 2000), 0.1)
 
 
 FAMILIES = (
@@ -642,6 +816,7 @@ FAMILIES = (
     width_inputs,
     heap_inputs,
     known_letter_inputs,
+    lost_hour_inputs,
     size_inputs,
     long_inputs,
 )
@@ -668,6 +843,7 @@ class Coverage:
         self.failed_verification = 0
         self.verified_6 = 0
         self.failed_6 = 0
+        self.lost = {}
 
     def add(self, data, output):
         word = output.split(b"\n", 1)[0].decode("latin-1")
@@ -696,14 +872,26 @@ class Coverage:
         m, n = len(pattern), len(text)
         self.grid.add((method, m, k))
         self.sides["shorter" if n < m else "equal" if n == m else "longer"] += 1
-        if method == 5 and not ref.heap_is_exact(pattern) and n >= m:
+        exact = ref.heap_is_exact(pattern)
+        if method == 5 and not exact and n >= m:
             looked = (ref.steps_heap_values(pattern, k, text)[1] - n) // m
             self.verified += looked
             self.failed_verification += looked - len(found)
+        if ref.LOST in text and n >= m:
+            self.with_lost_hours(method, exact, m, text, set(found))
         if method == 6:
             verified = sum(at is None for _, at in windows_of_method_6(pattern, text))
             self.verified_6 += verified
             self.failed_6 += verified - len(found)
+
+    def with_lost_hours(self, method, exact, m, text, found):
+        """The windows of an accepted search that have a lost hour; of method 5 those
+        of patterns with exact values apart from the others."""
+        lost = [s for s in range(len(text) - m + 1) if ref.LOST in text[s : s + m]]
+        kind = ("5, exact" if exact else "5, not exact") if method == 5 else str(method)
+        matching, others = self.lost.get(kind, (0, 0))
+        matches = sum(s in found for s in lost)
+        self.lost[kind] = matching + matches, others + len(lost) - matches
 
     def report(self):
         for key in sorted(self.answers, key=lambda word: (len(word), word)):
@@ -732,15 +920,21 @@ class Coverage:
             "  windows verified in method 6: %d, of them no match: %d"
             % (self.verified_6, self.failed_6)
         )
+        for kind in sorted(self.lost):
+            print("  method %s: %d windows with a lost hour that match, %d others"
+                  % ((kind,) + self.lost[kind]))
 
     def gaps(self):
         """What should have been reached and was not."""
         missing = []
-        for number in (1, 2, 3, 4, 5, 6, 11):
+        for number in (1, 2, 3, 4, 5, 6, 11, 13):
             if "refused %d" % number not in self.answers:
                 missing.append("refusal %d" % number)
-        if len(self.in_pattern) != 255 or len(self.in_text) != 256:
+        if self.in_pattern != set(PATTERN_BYTES) or len(self.in_text) != 256:
             missing.append("byte values")
+        for kind in ("1", "2", "3", "4", "5, exact", "5, not exact", "6"):
+            if min(self.lost.get(kind, (0,))) == 0:
+                missing.append("windows with a lost hour of method " + kind)
         for m in (1, 2, 3, 63, 64):
             for k in range(m):
                 for method in (1, 4) if k else METHODS:
@@ -846,6 +1040,7 @@ def check_reads(tally, path):
             (b"4 1 abcd\n", b"abxdcbad\n"),
             (b"5 0 ab\n", b"ba"),
             (b"6 0 aab\n", b"abaax"),
+            (b"3 0 aab\n", b"a-bx-"),
             (b"1 0 ", b"a"),
         ):
             data = (head + unit * size)[:size]
@@ -923,7 +1118,8 @@ def one_series(tally, rng, number):
     for _ in range(rng.randrange(4, 16)):
         call = rng.randrange(10)
         if call <= 4:
-            chunk = make_text(rng, pattern, k, rng.choice((0, 1, 2, m - 1, m, rng.randrange(20))))
+            size = rng.choice((0, 1, 2, m - 1, m, rng.randrange(20)))
+            chunk = lossy(rng, make_text(rng, pattern, k, size))
             search = fed(tally, search, ledger, chunk, rng)
         elif call == 5:
             wanted = rng.randrange(8)
@@ -964,9 +1160,12 @@ def one_series(tally, rng, number):
             if rng.randrange(2):
                 refusal, blank = ref.load(image[:-1])
                 tally.same("refused load", (refusal, blank), (9, ref.BLANK))
-            else:
+            elif rng.randrange(2):
                 refusal, blank = ref.open_search(pattern, m, method)
                 tally.same("refused open", (refusal, blank), (2, ref.BLANK))
+            else:
+                refusal, blank = ref.open_search(b"-" + pattern[1:], m, method)
+                tally.same("refused open", (refusal, blank), (13, ref.BLANK))
             tally.same("blank feed", ref.feed(blank, b"", []), (1, 0, 0, blank))
             tally.same("blank set method", ref.set_method(blank, 1), (1, blank))
             tally.same("blank save", ref.save(blank, bytearray(99)), (1, 0, blank))
@@ -985,7 +1184,7 @@ def one_series(tally, rng, number):
 def all_cuts(tally, rng):
     """Short texts cut at every two places, in every method."""
     for pattern, k in ((b"a", 0), (b"ab", 0), (b"aab", 1), (b"abac", 0), (b"abac", 2)):
-        text = make_text(rng, pattern, k, 11)
+        text = lost_in(rng, make_text(rng, pattern, k, 11), 0.2)
         for method in METHODS:
             if ref.refuse_terms(pattern, k, method):
                 continue
@@ -1006,7 +1205,7 @@ def handed_over(tally, rng):
     """Short texts begun by one method and ended by another, to and from method 6,
     cut at every place."""
     for pattern in (b"a", b"ab", b"aab", b"abac"):
-        text = make_text(rng, pattern, 0, 14)
+        text = lost_in(rng, make_text(rng, pattern, 0, 14), 0.2)
         for other, cut in itertools.product(METHODS, range(len(text) + 1)):
             for first, second in ((6, other), (other, 6)):
                 search = ref.open_search(pattern, 0, first)[1]
@@ -1033,6 +1232,7 @@ def check_reference(tally):
     tally.guarded("widths", check_widths)
     tally.guarded("examples", check_examples)
     tally.guarded("method 6", check_method_6, random.Random("%d method 6" % SEED))
+    tally.guarded("lost hours", check_lost_hours, random.Random("%d lost hours" % SEED))
     tally.guarded("images", check_images, random.Random("%d images" % SEED))
     tally.guarded("marked sheets", check_marked_sheets, random.Random("%d marked" % SEED))
 
@@ -1043,7 +1243,7 @@ def main(arguments):
         return 2
     started = time.monotonic()
 
-    sheet = Tally("(a) sheet, widths, examples, method 6, marked sheets")
+    sheet = Tally("(a) sheet, widths, examples, method 6, lost hours, marked sheets")
     check_reference(sheet)
     after_sheet = time.monotonic()
     sheet.report(after_sheet - started)

@@ -49,10 +49,16 @@ class Random:
 
 
 def some_letters(rng, count):
-    """That many different bytes, ascending."""
+    """That many different bytes that a pattern can have, ascending."""
     every = list(range(256))
     rng.shuffle(every)
+    every.remove(ref.LOST)
     return bytes(sorted(every[:count]))
+
+
+def letters_from(first):
+    """64 letters of a pattern from there on, the lost-hour mark left out."""
+    return bytes([c for c in range(first, first + 65) if c != ref.LOST][:64])
 
 
 def pattern_of(rng, m, q):
@@ -62,8 +68,8 @@ def pattern_of(rng, m, q):
 
 
 def strangers(rng, pattern, count):
-    """Bytes that the pattern lacks."""
-    others = bytes(c for c in range(256) if c not in pattern)
+    """Bytes that the pattern lacks, and that are errors: no lost hours."""
+    others = bytes(c for c in range(256) if c not in pattern and c != ref.LOST)
     return bytes(rng.choice(others) for _ in range(count))
 
 
@@ -176,13 +182,14 @@ def exactness(stream, rng):
 
 
 def byte_values(stream, rng):
-    """Every byte value in a pattern and in a text, beside its neighbours."""
+    """Every byte value in a pattern and in a text, beside its neighbours; the
+    lost-hour mark's patterns are refused."""
     for c in range(256):
         near = bytes([c, (c + 1) % 256, (c - 1) % 256, c, c ^ 128, c])
         stream.whole(bytes([c]), 0, 1 + c % 5, near)
         stream.whole(bytes([c, c ^ 128]), 0, 1 + (c // 5) % 5, near[2:])
     for first in range(0, 256, 64):
-        pattern = bytes(range(first, first + 64))
+        pattern = letters_from(first)
         for method in (1, 5, 6, 2):
             stream.whole(pattern, 0, method, repeated(200, pattern))
         stream.whole(pattern, 60, 1, scattered(150, first, bytes(range(255))))
@@ -1017,12 +1024,15 @@ def patterns_alike(stream, rng):
 
 
 def bytes_of_several(stream, rng):
-    """Every byte value in a pattern and in a text, beside its neighbours."""
+    """Every byte value in a pattern and in a text, beside its neighbours; with the
+    lost-hour mark the patterns are refused, and without it taken."""
     for first in range(0, 256, 8):
         own = bytes(range(first, first + 8))
         near = bytes([(first - 1) % 256]) + own + bytes([(first + 8) % 256, first ^ 128])
         several(stream, [bytes([c]) for c in own], 0, near)
-    wide = [bytes(range(first, first + 64)) for first in range(0, 256, 64)]
+        if ref.LOST in own:
+            several(stream, [bytes([c]) for c in own if c != ref.LOST], 0, near)
+    wide = [letters_from(first) for first in range(0, 256, 64)]
     several(stream, wide, 60, repeated(300, bytes(range(255))))
 
 
@@ -1129,7 +1139,7 @@ def readings_on_paper(stream, rng):
         method = rng.choice(FORMER_METHODS)
         marked(stream, pattern, 0, method, b"a" + pattern * 2 + pattern[::-1])
     for first in range(0, 256, 64):
-        own = bytes(range(first, first + 64))
+        own = letters_from(first)
         for method, pattern in ((1, own), (5, own), (1, own[:63]), (5, own[1:])):
             marked(stream, pattern, 0, method, repeated(130, own))
     for k in (62, 63):
@@ -1155,7 +1165,7 @@ DIGITS = (
     (10, b"a"), (11, b"a"), (100, b"a"), (101, b"a"),
     (1000, b"aa" + b"x" * 35), (1001, b"aa" + b"x" * 35),
     (10000, b"a" + b"." * 248 + b"a"), (10001, b"a" + b"." * 248 + b"a"),
-    (65535, b"a" + b" " * 254), (65536, b"a" + b" " * 254), (65536, b"-" * 253 + b"aa"),
+    (65535, b"a" + b" " * 254), (65536, b"a" + b" " * 254), (65536, b"+" * 253 + b"aa"),
 )
 
 
@@ -1175,7 +1185,7 @@ def one_sheet_by_every_method(stream, rng):
     for pattern, k, text, _, _ in SHEET:
         for method in METHODS + NO_METHODS[:2]:
             marked(stream, pattern, k, method, text)
-    for m, own, n in ((2, b"ab", 30), (3, b"aab", 90), (5, b"abacc", 150), (12, b"-ab", 75)):
+    for m, own, n in ((2, b"ab", 30), (3, b"aab", 90), (5, b"abacc", 150), (12, b"+ab", 75)):
         pattern = repeated(m, own).value
         for text in (repeated(n, own + b"x" + own), scattered(n, m, own)):
             for method in METHODS:
@@ -1238,7 +1248,7 @@ def made_sheets(stream, rng):
 # the text has 861 + m readings every window of it is listed, which makes 862
 # lines, the most that the longest buffer of a case holds.
 LONG = (
-    (862, 1, 0, b"a", b""), (2500, 1, 0, b"~", b"a.-"), (3000, 2, 0, b"ab", b"c"),
+    (862, 1, 0, b"a", b""), (2500, 1, 0, b"~", b"a.+"), (3000, 2, 0, b"ab", b"c"),
     (2400, 3, 0, b"\n\x0c ", b"7"), (20000, 7, 0, b"abcde", b""), (65536, 4, 0, b"abcd", b"efghij"),
     (5000, 64, 0, b"ab", b""), (925, 64, 0, b"a", b""),
     (863, 2, 1, b"ab", b""), (1200, 2, 1, b"ab", b"xyz"), (2000, 3, 1, b"\n\x0c ", b"\xff\r\0"),
@@ -1357,7 +1367,7 @@ def filled_to_a_word(stream, rng):
             for method, shared in ((2, 1), (3, 2)):
                 assert ref.bits_needed(pattern, 0, method) == bits + shared
             mix = shuffled(rng, pattern)
-            pieces = mix[:1], mix[1:] + b"~A", mix[2:4] + b"~~-"
+            pieces = mix[:1], mix[1:] + b"~A", mix[2:4] + b"~~+"
             fed_in_turn(stream, pattern, pieces, (1, 2, 3))
 
 
@@ -1386,7 +1396,7 @@ def in_many_pieces(stream, rng):
         m = len(pattern)
         # From the first window on almost every piece ends one that matches.
         first, second = shuffled(rng, pattern), shuffled(rng, pattern)
-        record = (first * 2)[: m + 12] + b"-" + (second * 2)[: m + 11]
+        record = (first * 2)[: m + 12] + b"+" + (second * 2)[: m + 11]
         pieces = []
         for size in (m - 1, 1, 2, 1, 3, 1, 2, 1, 1, 1) * 2:
             pieces.append(record[:size])
@@ -1415,7 +1425,7 @@ def images_of_letters_thrice(stream, rng):
 
 def windows_of_one_reading(stream, rng):
     """Each reading is a window, which is verified, or left behind at once."""
-    for c, other in ((b"a", b"b"), (b"-", b"."), (b"\0", b"\xff"), (b"\xff", b"\0")):
+    for c, other in ((b"a", b"b"), (b",", b"."), (b"\0", b"\xff"), (b"\xff", b"\0")):
         for text in (b"", c, other, c * 9, other * 9, (c + other) * 3, other + c * 2 + other * 2):
             stream.whole(c, 0, 6, text)
 
@@ -1475,13 +1485,17 @@ def verified_windows(stream, rng):
 def known_bytes(stream, rng):
     """Every byte value as a letter that the pattern has, and as one that it lacks.
     Of its letters' neighbours, and of what differs from one in the top bit, each
-    is the first reading that a window is asked about."""
+    is the first reading that a window is asked about.  The lost-hour mark is
+    neither."""
     for first in range(0, 256, 8):
         own = bytes(range(first, first + 8))
         text = shuffled(rng, own)
         for c in ((first - 1) % 256, first ^ 128, (first + 8) % 256):
             text += bytes([c]) + shuffled(rng, own)[:7]
         stream.whole(own, 0, 6, text + own[::-1])
+        if ref.LOST in own:
+            without = own.replace(b"-", b"")
+            stream.whole(without, 0, 6, text + own[::-1])
     for pattern in (b"\0", b"a\xff", b"\x7f"):
         stream.whole(pattern, 0, 6, bytes(range(256)))
 
@@ -1696,6 +1710,351 @@ def sides_of_each_entry(stream, rng):
             stream.open(pattern, k, 4)
 
 
+# --- A lost hour is no evidence (document 02, T-07) ------------------------------------------
+
+
+def by_each_method(stream, pattern, text, k=0):
+    """A whole search by every method that takes the terms."""
+    for method in METHODS if k == 0 else (1, 4):
+        stream.whole(pattern, k, method, text)
+
+
+def losing(rng, text, share):
+    """The text with that many readings lost of every hundred, about."""
+    return bytes(ref.LOST if rng.randrange(100) < share else c for c in text)
+
+
+def nothing_but_lost_hours(stream, rng):
+    """Every window that there is matches, also at a length of 64, of values that are
+    not exact, and for every k; then with the most looks of methods 1, 5 and 6, and in
+    the longest record by the others."""
+    for m, n in ((1, 0), (1, 1), (2, 2), (3, 4), (64, 63), (64, 64)):
+        by_each_method(stream, repeated(m, b"ab"), repeated(n, b"-"))
+    for m, k in ((2, 1), (3, 2), (64, 1), (64, 63)):
+        by_each_method(stream, repeated(m, b"ab"), repeated(m + 1, b"-"), k)
+    for method in (1, 5, 6):
+        stream.whole(letters(64), 0, method, repeated(65, b"-"))
+        stream.whole(repeated(64, b"ab"), 0, method, repeated(65536, b"-"))
+    for method in (2, 3, 4):
+        stream.whole(b"ab", 0, method, repeated(65536, b"-"))
+
+
+def the_hour_between(stream, rng):
+    """`a-c` for `abc`: whole, in pieces, on a sheet, by the program, and among several
+    patterns."""
+    for method in METHODS:
+        stream.whole(b"abc", 0, method, b"a-c")
+        stream.open(b"abc", 0, method)
+        for piece in (b"a", b"-", b"c"):
+            stream.feed(piece)
+        marked(stream, b"abc", 0, method, b"a-c")
+        stream.report(line(method, 0, b"abc") + b"a-c\n")
+    several(stream, [b"abc", b"abd", b"cca"], 0, b"a-c")
+
+
+def lost_at_each_place(stream, rng):
+    """One hour lost of a mix, at each of its places."""
+    for at in range(3):
+        by_each_method(stream, b"abc", b"cab"[:at] + b"-" + b"cab"[at + 1 :])
+
+
+def pairs_with_lost_hours(stream, rng):
+    """Every pair that has one, as the first of two and as the second; and an odd m,
+    whose leftmost reading is alone."""
+    for pair in itertools.product(b"-abx", repeat=2):
+        if ref.LOST in pair:
+            stream.whole(b"aabb", 0, 3, b"bb" + bytes(pair))
+            stream.whole(b"aabb", 0, 3, bytes(pair) + b"bb")
+    for text in (b"-abbc", b"--bbc", b"-xbbc", b"x-bbc", b"xa-b-"):
+        stream.whole(b"aabbc", 0, 3, text)
+
+
+# Patterns, and lengths of texts of `a`, `b`, `-` and `x` in which every method comes to
+# every window that has a lost hour.
+EVERY_WINDOW = ((b"ab", 300), (b"aab", 4000), (b"aabb", 20000))
+
+
+def every_window_with_lost_hours(stream, rng):
+    """All that two readings can be of which one is lost; then, in long texts, whole and
+    fed, all that up to four can be, for every k."""
+    for text in itertools.product(b"ab-x", repeat=2):
+        if ref.LOST in text:
+            by_each_method(stream, b"ab", bytes(text))
+    for pattern, n in EVERY_WINDOW:
+        for k in range(len(pattern)):
+            by_each_method(stream, pattern, scattered(n, 7 + k, b"ab-x"), k)
+    for method in METHODS:
+        stream.open(b"aab", 0, method)
+        stream.feed(scattered(200, method, b"ab-"))
+        stream.feed(scattered(150, method, b"a-x"))
+
+
+def letters_thrice_and_lost_hours(stream, rng):
+    """Methods 2 and 3 where their fields had other widths before T-03, whole and in
+    turn."""
+    for pattern in (b"aaab", b"ab" * 3):
+        for method in (2, 3):
+            stream.whole(pattern, 0, method, scattered(600, method, b"ab-x"))
+        pieces = [scattered(40, seed, b"aab-").value for seed in range(3)]
+        fed_in_turn(stream, pattern, pieces, (2, 3))
+
+
+def lost_hours_one_by_one(stream, rng):
+    """Pieces of one reading, by one method each; with an error by those that take one.
+    Each kind of seam beside a lost hour has a match across it, and comes without one."""
+    for pattern, k, text in ((b"aab", 0, b"a--x--b-a"), (b"aabb", 1, b"bxx---x-xa")):
+        for method in METHODS if k == 0 else (1, 4):
+            stream.open(pattern, k, method)
+            for at in range(len(text)):
+                stream.feed(text[at : at + 1])
+
+
+def seams_of_lost_hours(stream, rng):
+    """A record of lost hours cut before and after them; then every change from one
+    method to another within a window that has one."""
+    for method, cut in itertools.product(METHODS, (2, 4)):
+        stream.open(b"aab", 0, method)
+        stream.feed(b"ab--ab"[:cut])
+        stream.feed(b"ab--ab"[cut:])
+    # A round through all of them: each goes once to each other.
+    methods, left = [1], set(itertools.permutations(METHODS, 2))
+    while left:
+        here = methods[-1]
+        there = max(b for a, b in left if a == here)
+        left.remove((here, there))
+        methods.append(there)
+    pieces = [b"-ab"] + [b"-ab"[at % 3 :][:1] for at in range(30)]
+    fed_in_turn(stream, b"aab", pieces, methods)
+
+
+def lost_hours_in_an_image(stream, rng):
+    """Saved with a tail that has lost hours, loaded, and gone on with; the form of an
+    image comes before its pattern, and its pattern before its tail."""
+    for method, piece in zip(METHODS, (b"-", b"b-", b"ab-", b"a-b", b"--", b"b--")):
+        stream.open(b"aab", 0, method)
+        stream.feed(piece)
+        search = ref.contents(stream.search)
+        stream.save(64)
+        stream.load(ref.image_of(search))
+        stream.feed(b"a-x")
+    lost = ref.Search(b"a-", 0, 1, 1, b"a")
+    image = ref.image_of(lost)
+    stream.load(image)
+    stream.load(ref.image_of(lost._replace(pattern=b"ab", tail=b"-")))
+    for wrong in (image[:-1], image + b"-", b"\5" + image[1:], image_in_order(lost, (2, 1, 3, 4))):
+        stream.load(wrong)
+    for tail in (b"", b"-", b"--"):
+        stream.load(ref.image_of(lost._replace(tail=tail)))
+
+
+# 31 readings of 14 letters, whose values aren't exact; the last of them, `n`, has the
+# value 0.  A window of each kind: with a lost hour and without, of equal sum and of
+# another, a match and none.
+HEAP = b"abcdefghijklm" + b"n" * 18
+HEAP_WINDOWS = (
+    HEAP, HEAP[:-1] + b"-", HEAP[:-2] + b"-x", b"-" + HEAP[1:], b"-x" + HEAP[2:], HEAP[:-1] + b"x",
+    b"x" + HEAP[1:], HEAP[:13] + b"-" * 18,
+)
+
+
+def sums_beside_lost_hours(stream, rng):
+    """Method 5: each kind of window alone and after each other; one lost hour that goes
+    through all places of a window, after which no window is verified but for its sum;
+    and more of them, which leave one by one."""
+    for window in HEAP_WINDOWS[1:5]:
+        stream.whole(HEAP, 0, 5, window)
+    for parts in ((0, 1, 0, 6), (5, 2, 5), (3, 6, 4), (6, 7, 0)):
+        stream.whole(HEAP, 0, 5, b"".join(HEAP_WINDOWS[part] for part in parts))
+    stream.open(HEAP, 0, 5)
+    for part in (5, 2, 0, 3, 6):
+        stream.feed(HEAP_WINDOWS[part])
+    for text in (
+        b"abc-abc", b"xbc-xbc", b"ab-xab", b"--abc", b"abc--", b"aa-aab", b"-xx-xx",
+        b"abcab-cabxabc--bca", b"-abc-x-acb-",
+    ):
+        stream.whole(b"abc", 0, 5, text)
+    for q in (10, 11):
+        pattern = letters(q) + b"A" * (63 - q)
+        stream.whole(pattern, 0, 5, repeated(260, pattern + pattern[:9] + b"-" + pattern))
+
+
+def top_bits_before_lost_hours(stream, rng):
+    """Method 4: so many errors to the right of a lost hour, by letters that the pattern
+    lacks, by one that it has, and by both, and none or too many to the left of it."""
+    for k in (1, 2, 3):
+        for errors in range(1, k + 1):
+            for wrong in sorted({b"x" * errors, b"f" * errors, (b"fx" * errors)[:errors]}):
+                for left in (b"abcd", b"xxxx"):
+                    stream.whole(b"abcdef", k, 4, (left + b"-" + wrong + b"f")[-6:])
+    for text in (b"abc-xf", b"a-b-xx", b"xx-xxx", b"---xxx", b"x-x-x-", b"f-f-f-f-f", b"-x-x-x-ff"):
+        stream.whole(b"abcdef", 2, 4, text)
+
+
+# What is next to the lost-hour mark, or differs from it in one bit.
+BESIDE_LOST = bytes((44, 46, 47, 41, 37, 61, 13, 109, 173))
+
+
+def letters_beside_the_mark(stream, rng):
+    """As letters that a pattern lacks and as letters that it has they are what they
+    were."""
+    by_each_method(stream, b"a", BESIDE_LOST + b"-")
+    by_each_method(stream, b",.", b",-.,,.-./")
+    for c in BESIDE_LOST:
+        stream.whole(bytes([c]), 0, 1 + c % 6, bytes([c, 45, 97, c]))
+
+
+def several_and_lost_hours(stream, rng):
+    """Records of nothing else, windows that match some of the patterns and all of them,
+    and as many lost hours as a field can count."""
+    for count in (1, 3, 8):
+        several(stream, made_patterns(rng, count, 2, b"ab"), 0, repeated(4, b"-"))
+        for k in (0, 1, 2) if count == 3 else (0,):
+            patterns = made_patterns(rng, count, 3, b"abc")
+            several(stream, patterns, k, scattered(60, 9 * count + k, b"abc-x"))
+    for k, unit in ((0, b"a" * 64 + b"-" * 66), (63, b"x" * 63 + b"-"), (31, b"a-b")):
+        several(stream, [b"a" * 64, b"b" * 64], k, repeated(200, unit))
+    several(stream, [b"ab", b"ba", b"bc"], 0, b"a-b-c,.-")
+
+
+def lost_hours_on_paper(stream, rng):
+    """They show as they stand."""
+    for method, lines in zip(METHODS, (1, 49, 50, 51, 100, 101)):
+        marked(stream, b"a", 0, method, repeated(lines, b"a-"))
+        marked(stream, b"abc", 0, method, losing(rng, repeated(30, b"cabx").value, 30), method % 2)
+    for k, method in ((1, 1), (1, 4), (63, 4)):
+        marked(stream, b"ab" * 32, k, method, repeated(130, b"-.a,b "))
+    marked(stream, b"ab", 0, 5, b"--x-", -1)
+
+
+def inputs_with_lost_hours(stream, rng):
+    """In the record they count for nothing, also as its last reading; in the pattern
+    they are a 13 after 6, 11 and 1, and before the others."""
+    for method in METHODS:
+        text = losing(rng, b"abcabxcba", 40)
+        stream.report(line(method, 0, b"abc") + text + (b"-", b"-\n", b"\n-", b"-\n\n")[method % 4])
+    for method, k in ((1, 1), (4, 1), (4, 2)):
+        stream.report(line(method, k, b"abc") + b"-x-xx-xxx-a")
+    for first in (
+        b"2 00 a-\n", b"- 0 a-\n", b"2 -0 a-\n", b"2 0 a-", b"20 a-\n", b"1 0 -\n", b"1 0 --\n",
+        b"1 0 -a\n", b"1 0 a -\n", b"1 0 - \n", b"2 2 a-\n", b"4 99 -a\n", b"0 0 a-\n", b"9 1 a-\n",
+        b"6 1 a-\n", b"1 0 " + b"a" * 64 + b"-\n", b"7 65 " + b"a" * 64 + b"-\n", b"1 0 a,.\n",
+    ):
+        stream.report(first + b"a-")
+    for first in (
+        line(2, 0, letters(31) + b"-"), line(4, 32, letters(31) + b"-"), line(2, 1, letters(32)),
+        line(2, 0, letters(65)), line(5, 1, letters(65)), line(4, 32, letters(32)),
+    ):
+        stream.report(first + b"A-")
+    for size in (16384, 16385):
+        for unit in (b"5 0 abc\nca-b", b"1 0 a-\n", b"2 0 " + letters(32) + b"\nA"):
+            stream.report(repeated(size, unit))
+
+
+def lost_in_pattern(m, at):
+    return b"a" * at + b"-" + b"b" * (m - 1 - at)
+
+
+def patterns_with_a_lost_hour(stream, rng):
+    """Number 13 by every call, for the first place of a pattern, a middle one and the
+    last."""
+    for m in (1, 2, 3, 64):
+        for at in sorted({0, m // 2, m - 1}):
+            pattern = lost_in_pattern(m, at)
+            search = ref.Search(pattern, 0, 1 + (m + at) % 6, 1, b"a"[: m - 1])
+            stream.whole(*search[:3], b"ab-")
+            stream.open(*search[:3])
+            stream.load(ref.image_of(search))
+            if m < 64:
+                marked(stream, *search[:3], b"ab-")
+                stream.report(line(search.method, 0, pattern) + b"ab-")
+            if at == m // 2 if m < 64 else at != m // 2:
+                stream.hand(handed(rng, *search))
+                stream.feed(b"-b")
+                stream.set_method(1)
+                stream.save(160)
+    # Only the bytes up to the pattern's length are the pattern's.
+    for m, tail in ((2, b"-"), (63, b"a" * 62)):
+        stored = handed(rng, b"ab" * m, 0, 2, 99, tail, pattern_len=m)
+        past = stored.pattern[:m] + b"-" * (64 - m)
+        stream.hand(stored._replace(pattern=past, tail=tail.ljust(63, b"-")))
+        stream.set_method(1)
+        stream.save(160)
+        stream.feed(b"a-b")
+
+
+# Terms with a lost hour in the pattern and something else that is refused, before it in
+# the order of the tests or after it.
+SIDES_OF_13 = (
+    (b"-" * 65, 0, 1), (b"a" * 64 + b"-", 65, 7), (b"a-", 2, 1), (b"-a", 255, 7), (b"a-", 0, 0),
+    (b"a-", 1, 7), (b"a-", 1, 2), (b"a-", 1, 6), (letters(31) + b"-", 0, 2),
+    (letters(31) + b"-", 32, 4),
+)
+
+
+def sides_of_13(stream, rng):
+    """Every set of terms with lists, buffers and tails that would be refused too."""
+    for pattern, k, method in SIDES_OF_13:
+        stream.open(pattern, k, method)
+        stream.whole(pattern, k, method, b"aab", rng.choice((0, 2, 3)))
+        marked(stream, pattern, k, method, b"a--" * 3, rng.choice((-1, 0)), rng.choice((8, 9)))
+        search = ref.Search(pattern, k, method, 99, rng.choice((b"", pattern[1:])))
+        stream.load(ref.image_of(search))
+    for n, places in ((65537, 65537), (65537, 3), (3, 2)):
+        stream.whole(b"a-", 0, 1, repeated(n, b"ab"), places)
+        stream.marked(vs.Marked(0, b"a-"), 0, 1, repeated(n, b"ab-"), places)
+    for room in (0, 227, 228):
+        stream.marked(vs.Marked(room, b"a-"), 0, 1, b"a-a-", 4)
+    for pattern, k, method, tail_len in (
+        (letters(31) + b"-", 32, 4, 63), (b"a-", 1, 3, 1), (b"-a", 0, 7, 0),
+        (b"a" * 63 + b"-", 65, 9, 65),
+    ):
+        stored = handed(rng, pattern, k, method, ref.LARGEST_TOTAL, b"a" * 32, tail_len=tail_len)
+        stream.hand(stored._replace(pattern_len=65) if tail_len == 65 else stored)
+        for n, places in ((3, 2), (65537, 3)):
+            stream.feed(repeated(n, b"a"), places)
+        for new in (2, 4, 7):
+            stream.set_method(new)
+        stream.save(20)
+
+
+def several_with_a_lost_hour(stream, rng):
+    """Number 13 by any of the patterns, after 1 and 12 and before the others."""
+    for count in (1, 2, 3, 8):
+        for at in sorted({0, count // 2, count - 1}):
+            patterns = [b"ab"] * count
+            patterns[at] = (b"a-", b"-b")[at % 2]
+            several(stream, patterns, at % 3, b"ab-", at % 4 * 8)
+    several(stream, [b"-", b"a"], 0, b"a-")
+    several(stream, [b"a" * 63 + b"-"], 64, repeated(65537, b"a"), 3)
+    several(stream, [b"a-", b"ab"], 0, repeated(65537, b"a"), 65537, 65537)
+    several(stream, [b"a-"] * 9, 0, b"ab")
+    several(stream, [b"a-", b"abc"], 0, b"ab")
+    several(stream, [b"a-", b"abc"], 2, b"ab", 1)
+    several(stream, [b"a-b"], 0, b"ab", lengths=[2])
+    several(stream, [b"a-"], 0, b"ab", lengths=[2, 65])
+    several(stream, [b"a-"], 0, b"ab", lengths=[2, 0])
+    several(stream, [b"-" * 65], 0, b"ab")
+
+
+class LossySeries(Series):
+    """A text with lost hours; an open that is refused may be so for one."""
+
+    def open(self):
+        super().open()
+        self.plan = losing(self.rng, self.plan, self.rng.choice((10, 30, 80)))
+
+    def open_refused(self):
+        at = self.rng.randrange(len(self.pattern))
+        pattern = self.pattern[:at] + b"-" + self.pattern[at + 1 :]
+        self.stream.open(pattern, self.rng.choice((0, 64)), self.rng.choice((1, 7)))
+        self.go_on_from_blank()
+
+
+def series_with_lost_hours(stream, rng):
+    for _ in range(3):
+        LossySeries(stream, rng, METHODS).run(rng.randrange(8, 36))
+
+
 # --- All of them ----------------------------------------------------------------------------
 
 FAMILIES = (
@@ -1780,4 +2139,23 @@ FAMILIES = (
     series_with_method_6,
     each_entry,
     sides_of_each_entry,
+    nothing_but_lost_hours,
+    the_hour_between,
+    lost_at_each_place,
+    pairs_with_lost_hours,
+    every_window_with_lost_hours,
+    letters_thrice_and_lost_hours,
+    lost_hours_one_by_one,
+    seams_of_lost_hours,
+    lost_hours_in_an_image,
+    sums_beside_lost_hours,
+    top_bits_before_lost_hours,
+    letters_beside_the_mark,
+    several_and_lost_hours,
+    lost_hours_on_paper,
+    inputs_with_lost_hours,
+    patterns_with_a_lost_hour,
+    sides_of_13,
+    several_with_a_lost_hour,
+    series_with_lost_hours,
 )

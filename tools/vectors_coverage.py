@@ -1,9 +1,10 @@
 """What a stream of cases reaches, taken from the stream as it is read back."""
 
+import itertools
 from collections import Counter
 
 import reference as ref
-from compare import METHODS, ORDERS, Coverage, windows_of_method_6
+from compare import METHODS, ORDERS, Coverage, candidates, windows_of, windows_of_method_6
 from vectors_stream import (
     EXACT, FEED, HAND, LOAD, MARKED, OPEN, REPORT, SAVE, SET_METHOD, SEVERAL, WHOLE, WIDTH,
     Handed, Marked,
@@ -15,12 +16,13 @@ NAMES = {
     MARKED: "marked sheet",
 }
 
-# Document 01, "When a call says no", and document 02, T-01 and T-02: the numbers
-# of each call.
+# Document 01, "When a call says no", and document 02, T-01, T-02 and T-07: the
+# numbers of each call.
 NUMBERS = {
-    WHOLE: range(8), OPEN: range(6), FEED: range(10), SET_METHOD: (0, 1, 2, 3, 4, 5, 9),
-    SAVE: (0, 1, 2, 3, 4, 5, 9, 10), LOAD: (0, 1, 2, 3, 4, 5, 9),
-    SEVERAL: (0, 1, 2, 6, 7, 12), MARKED: (0, 1, 2, 3, 4, 5, 6, 7, 10),
+    WHOLE: (*range(8), 13), OPEN: (*range(6), 13), FEED: (*range(10), 13),
+    SET_METHOD: (0, 1, 2, 3, 4, 5, 9, 13), SAVE: (0, 1, 2, 3, 4, 5, 9, 10, 13),
+    LOAD: (0, 1, 2, 3, 4, 5, 9, 13), SEVERAL: (0, 1, 2, 6, 7, 12, 13),
+    MARKED: (0, 1, 2, 3, 4, 5, 6, 7, 10, 13),
 }
 
 # The fewest cases of kinds that are easily thin.
@@ -67,7 +69,18 @@ FEWEST = {
     "saved searches of another method that are loaded with 6": 5,
     "images of saved searches in another order": 92,
     "saved searches that differ past their lengths alone": 10,
+    "searches with a lost hour in a window that matches and in one that doesn't": 50,
+    "feeds with a lost hour in a match that begins in the tail": 80,
+    "searches with a lost hour, and fields that were wider before T-03": 10,
+    "saved searches with a lost hour in the tail that are loaded": 6,
+    "images of another form, with a lost hour in the pattern": 3,
+    "several patterns, and a lost hour in a window that matches": 12,
+    "sheets that show a lost hour": 20,
+    "outputs of a record with a lost hour": 15,
 }
+
+# What is beside the lost-hour mark: the next bytes, and others by a bit.
+BESIDE_LOST = (44, 46, 47, 41, 37, 61, 13, 109, 173)
 
 # The calls that refuse with 3, 4 and 5.
 MEASURING = WHOLE, OPEN, FEED, SET_METHOD, SAVE, LOAD, REPORT, MARKED
@@ -82,7 +95,8 @@ def method_tests(pattern, k, method):
 
 def terms_tests(pattern, k, method):
     m = len(pattern)
-    return [(1, m == 0 or m > 64), (2, k >= m)] + method_tests(pattern, k, method)
+    first = [(1, m == 0 or m > 64), (13, ref.LOST in pattern), (2, k >= m)]
+    return first + method_tests(pattern, k, method)
 
 
 def search_tests(search):
@@ -95,7 +109,8 @@ def handed_tests(handed, k):
     apart = not 1 <= len(lengths) <= 8 or len(set(lengths)) > 1
     wrong = sum(lengths) != len(handed.data)
     bad = any(m not in range(1, 65) for m in lengths)
-    return [(1, bad), (12, apart or wrong), (2, len(lengths) > 0 and k >= lengths[0])]
+    first = [(1, bad), (12, apart or wrong), (13, ref.LOST in handed.data)]
+    return first + [(2, len(lengths) > 0 and k >= lengths[0])]
 
 
 def sheet_needed(pattern, k, text):
@@ -130,6 +145,10 @@ def tests_of(op, arguments, search):
         limits = [(6, len(text) > 65536), (7, places < len(text))]
         short = handed.room < sheet_needed(handed.pattern, k, text)
         return terms_tests(handed.pattern, k, method) + limits + [(10, short)]
+    if op == REPORT:
+        method, k, pattern, _ = ref.parse_input(arguments[0]) or (1, 0, b"a", b"")
+        bad = ref.parse_input(arguments[0]) is None
+        return [(6, len(arguments[0]) > 16384), (11, bad)] + terms_tests(pattern, k, method)
     return []
 
 
@@ -173,12 +192,12 @@ def has_thrice(pattern):
 
 def possible_pairs(op):
     """Places in the order of tests of two that can hold at once.  A method
-    that is none has no condition of number 4 or 5."""
+    that is none has no condition of number 4 or 5, and a bad first line no terms."""
     numbers = [number for number, _ in tests_of(op, *EXAMPLES[op])]
     for j in range(len(numbers)):
         for i in range(j):
             of_one_method = numbers[i] == 3 and j - i in (1, 2) and numbers[j] in (4, 5)
-            if not of_one_method:
+            if not of_one_method and numbers[i] != 11:
                 yield i, j
 
 
@@ -191,18 +210,14 @@ EXAMPLES = {
     LOAD: ((ref.image_of(ref.BLANK),), ref.BLANK),
     SEVERAL: ((Handed(0, [1], b"a"), 0, b"", 0), ref.BLANK),
     MARKED: ((Marked(0, b"a"), 0, 1, b"", 0), ref.BLANK),
+    REPORT: ((b"1 0 a\n",), ref.BLANK),
 }
 
 # --- Coverage ------------------------------------------------------------------
 
 
-def candidates(pattern, text):
-    """The windows whose sum of heap values, modulo 2^64, is the pattern's."""
-    m = len(pattern)
-    value = {c: (m + 1) ** i for i, c in enumerate(sorted(set(pattern)))}
-    sums = [sum(value.get(c, 0) for c in text[s : s + m]) for s in range(len(text) - m + 1)]
-    own = sum(value[c] for c in pattern)
-    return [s for s, total in enumerate(sums) if (total - own) % 2**64 == 0]
+def place_in(at, length):
+    return "first" if at == 0 else "last" if at == length - 1 else "middle"
 
 
 class VectorCoverage(Coverage):
@@ -224,6 +239,7 @@ class VectorCoverage(Coverage):
         self.by_letters = set()
         self.known, self.lacking = set(), set()
         self.most_looks = 0
+        self.beside_lost = set()
 
     def case(self, op, arguments, number, before):
         """A case, and the stored search before it."""
@@ -233,15 +249,16 @@ class VectorCoverage(Coverage):
             return
         self.cases[op, number] += 1
         search = ref.contents(before)
-        self.order(op, tests_of(op, arguments, search), number)
-        self.across(op, arguments, number, search)
-        self.images(op, arguments, number, search, before)
         if op == REPORT:
             output = ref.program_output(arguments[0])
             self.add(arguments[0], output)
             self.first_line(arguments[0])
             number = int(output.split()[1]) if output.startswith(b"refused ") else 0
-        elif op == WIDTH:
+        self.order(op, tests_of(op, arguments, search), number)
+        self.across(op, arguments, number, search)
+        self.images(op, arguments, number, search, before)
+        self.marks(op, arguments, number, before)
+        if op == WIDTH:
             self.bits.add((arguments[2], ref.bits_needed(*arguments)))
         elif op == WHOLE and not number:
             self.searched(*arguments[:4])
@@ -249,6 +266,7 @@ class VectorCoverage(Coverage):
         elif op == FEED and not number:
             self.searched(search.pattern, search.k, search.method, search.tail + arguments[0])
             self.verifications(op, search.pattern, search.method, search.tail, arguments[0])
+            self.seam(search, arguments[0])
             if search.method == 6:
                 self.from_the_tail(search.pattern, search.tail, arguments[0])
         elif op == SEVERAL and not number:
@@ -290,6 +308,8 @@ class VectorCoverage(Coverage):
         super().searched(pattern, k, method, text)
         if method == 6:
             self.course(pattern, text)
+        if ref.LOST in text and len(text) >= len(pattern):
+            self.evidence(pattern, k, method, text)
         if method not in (2, 3):
             return
         m = len(pattern)
@@ -327,7 +347,7 @@ class VectorCoverage(Coverage):
             self.by_letters.add(("m", m, "readings", n - m))
         self.most_looks = max(self.most_looks, looks)
         self.known |= set(pattern) & set(text)
-        self.lacking |= set(text) - set(pattern)
+        self.lacking |= set(text) - set(pattern) - {ref.LOST}
         with_both = "searches by method 6 with a match and a window that is verified in vain"
         self.counts[with_both] += {"match", "failure"} <= kinds
 
@@ -348,12 +368,16 @@ class VectorCoverage(Coverage):
             self.change = "that is refused with 5"
         elif op == SET_METHOD and not number:
             self.change = "from method %d to %d" % (search.method, arguments[0])
+        elif op == LOAD and not number:
+            self.change = "by an image of method %d" % ref.parts_of(arguments[0]).method
         elif op == FEED and not number and change:
             text = search.tail + arguments[0]
             first = ref.listed_positions(search.pattern, search.k, text)[:1]
             match = bool(first) and first[0] < len(search.tail)
             at = change, search.pattern, "at", search.n
             self.by_letters |= {at, (change, "within a match", match)}
+            if match and ref.LOST in text[first[0] : first[0] + len(search.pattern)]:
+                self.beside_lost.add(("a match across a change", change))
             if has_thrice(search.pattern) and match:
                 self.counts["a window of letters thrice across a change " + change] += 1
 
@@ -365,6 +389,12 @@ class VectorCoverage(Coverage):
             self.orders.add((order, number))
             known = order in ORDERS[1:] and ref.parts_of(put_right) in self.saved
             self.counts["images of saved searches in another order"] += known
+            form = ref.parts_of(arguments[0])
+            lost = form is None and ref.LOST in arguments[0][13:15]
+            self.counts["images of another form, with a lost hour in the pattern"] += lost
+            lost = form is not None and form in self.saved and ref.LOST in form.tail
+            kind = "saved searches with a lost hour in the tail that are loaded"
+            self.counts[kind] += lost and not number
         if op == SAVE and not number:
             stored_before = self.stored_as.setdefault(search, set())
             again = stored not in stored_before and len(stored_before) > 0
@@ -389,6 +419,138 @@ class VectorCoverage(Coverage):
             ):
                 self.counts["saved searches " + kind] += holds and not number
 
+    def marks(self, op, arguments, number, stored):
+        """Number 13 by where the lost hour is; stored searches that have one only where
+        it does nothing; and the example of the request."""
+        if op == SEVERAL and number == 13:
+            patterns = ref.cut_up(arguments[0].data, arguments[0].lengths)
+            for at, pattern in enumerate(patterns):
+                if ref.LOST in pattern:
+                    place = place_in(at, len(patterns))
+                    self.beside_lost.add(("13 of", len(patterns), "patterns, by the", place))
+        terms = measured_terms(op, arguments, ref.contents(stored))
+        if op == SET_METHOD:
+            terms = ref.contents(stored)[:3]
+        if number == 13 and terms:
+            pattern = terms[0]
+            place = place_in(pattern.index(ref.LOST), len(pattern))
+            self.beside_lost.add((NAMES[op], "number 13", "m", len(pattern), place))
+        if op in (FEED, SET_METHOD, SAVE) and not number:
+            if ref.LOST in stored.pattern[stored.pattern_len :]:
+                self.beside_lost.add((NAMES[op], "lost past the pattern's length"))
+            if ref.LOST in stored.tail[stored.tail_len :]:
+                self.beside_lost.add((NAMES[op], "lost past the tail's length"))
+        record = None
+        if op in (WHOLE, MARKED):
+            record = arguments[3]
+        elif op == FEED:
+            record = ref.contents(stored).tail + arguments[0]
+        elif op == REPORT and not number:
+            record = ref.parse_input(arguments[0])[3]
+        if record == b"a-c" and terms[0] == b"abc" and not number:
+            self.beside_lost.add(("the example", NAMES[op], "method", terms[2]))
+
+    def evidence(self, pattern, k, method, text):
+        """An accepted search of a text with lost hours, by the windows that it comes
+        to."""
+        m, n = len(pattern), len(text)
+        tolerance = "k > 0" if k else "k = 0"
+        if text == b"-" * n:
+            self.beside_lost.add(("nothing else, method", method, tolerance, "m", m))
+        matches = set(ref.listed_positions(pattern, k, text))
+        if n == m and matches and text.count(ref.LOST) == 1:
+            at = text.index(ref.LOST)
+            self.beside_lost.add(("a record of one window, method", method, "m", m, "at", at))
+        lost = {s in matches for s in range(n - m + 1) if ref.LOST in text[s : s + m]}
+        both = "searches with a lost hour in a window that matches and in one that doesn't"
+        self.counts[both] += len(lost) == 2
+        wider = "searches with a lost hour, and fields that were wider before T-03"
+        self.counts[wider] += ref.had_other_fields(pattern, k, method)
+        if method == 5:
+            self.sums(pattern, text, matches)
+        for c in BESIDE_LOST if m == 1 else ():
+            if c in text:
+                self.beside_lost.add(("reading", c, "method", method, "own", c in pattern))
+        if m > 8 or n > 20000:
+            return
+        for s, stop in windows_of(pattern, k, method, text):
+            window = text[s : s + m]
+            if set(pattern) <= set(b"ab") and set(window) <= set(b"ab-x"):
+                self.beside_lost.add((pattern, k, method, window))
+            if ref.LOST in window:
+                self.one_window(pattern, k, method, window, stop, s in matches)
+
+    def one_window(self, pattern, k, method, window, stop, match):
+        """How the scan of a window with a lost hour ends: as a match, verified in vain,
+        or before it comes to the lost hour, at it, or after it."""
+        at = window.index(ref.LOST)
+        how = "a match" if match else "none"
+        if stop is not None:
+            how = "left before" if stop > at else "left at" if stop == at else "left after"
+        if window.count(ref.LOST) == 1:
+            self.beside_lost.add(("method", method, "k > 0", k > 0, "m", len(window), at, how))
+        if method == 3:
+            self.pairs_read(pattern, window, stop)
+        if method == 4 and k:
+            self.top_bits(pattern, k, window, stop)
+
+    def pairs_read(self, pattern, window, stop):
+        """Each step of method 3 with a lost hour in it."""
+        def kind(c):
+            return "lost" if c == ref.LOST else "own" if c in pattern else "strange"
+
+        right = len(window) - 1
+        while right >= (stop or 0):
+            left = max(right - 1, 0)
+            kinds = tuple(kind(c) for c in window[left : right + 1])
+            if "lost" in kinds:
+                self.beside_lost.add(("step", kinds, "left" if stop == left else "gone on"))
+            right = left - 1
+
+    def top_bits(self, pattern, k, window, stop):
+        """Method 4: the errors to the right of a lost hour, and whose top bits they
+        set; with k of them one more would end the scan."""
+        for at in range(stop or 0, len(window)):
+            right = window[at + 1 :].replace(b"-", b"")
+            errors = ref.excess(right, pattern)
+            shared = any(c not in pattern for c in right)
+            own = any(right.count(c) > pattern.count(c) for c in pattern)
+            if window[at] == ref.LOST and errors:
+                bits = "both" if shared and own else "shared" if shared else "own"
+                end = "a match" if stop is None else "left"
+                self.beside_lost.add(("top bits", bits, "errors", errors, "of", k, end))
+
+    def sums(self, pattern, text, matches):
+        """Method 5: the kind of each window, and which follows which where a lost hour
+        enters or leaves."""
+        m, exact, before = len(pattern), ref.heap_is_exact(pattern), None
+        equal = set(candidates(pattern, text))
+        for s in range(len(text) - m + 1):
+            kind = ref.LOST in text[s : s + m], s in equal, s in matches
+            self.beside_lost.add(("exact", exact, "lost, equal sum, match", kind))
+            if before and before[0] != kind[0]:
+                self.beside_lost.add(("exact", exact, before[:2], "then", kind[:2]))
+            before = kind
+
+    def seam(self, search, chunk):
+        """Lost hours at the place where a piece joins the tail."""
+        pattern, k, method, _, tail = search
+        m, text = len(pattern), tail + chunk
+        if not tail or not chunk or len(text) < m or ref.LOST not in text:
+            return
+        found = [s for s in ref.listed_positions(pattern, k, text) if s < len(tail)]
+        match = any(ref.LOST in text[s : s + m] for s in found)
+        self.counts["feeds with a lost hour in a match that begins in the tail"] += match
+        for kind, holds in (
+            ("last of the tail", tail[-1] == ref.LOST != chunk[0]),
+            ("first of the piece", tail[-1] != ref.LOST == chunk[0]),
+            ("on both sides", tail[-1] == ref.LOST == chunk[0]),
+            ("all of the tail", tail == b"-" * (m - 1) and m > 2),
+            ("a piece of one", chunk == b"-"),
+        ):
+            if holds:
+                self.beside_lost.add(("seam", kind, "method", method, "k > 0", k > 0, match))
+
     def several(self, handed, k, text, places):
         patterns = ref.cut_up(handed.data, handed.lengths)
         pairs = ref.listed_pairs(patterns, k, text)
@@ -404,6 +566,8 @@ class VectorCoverage(Coverage):
             ("several patterns, of which two are equal", len(set(patterns)) < count),
             ("pairs that fill both lists", places == handed.places == len(pairs) > 0),
             ("lists of unlike length for several patterns", places != handed.places),
+            ("several patterns, and a lost hour in a window that matches",
+             count > 1 and any(ref.LOST in text[s : s + m] for s, _ in pairs)),
         ):
             self.counts[kind] += holds
 
@@ -441,6 +605,8 @@ class VectorCoverage(Coverage):
             self.on_paper.add(("position", s))
             for c in set(text[s : s + m]):
                 self.on_paper.add(("reading", c, "of the pattern" if c in pattern else "else"))
+        shown = any(ref.LOST in text[s : s + m] for s in positions)
+        self.counts["sheets that show a lost hour"] += shown
         if positions:
             self.on_paper |= {("window", m), ("method", method)}
             self.looks_of_one_sheet(pattern, k, method, text)
@@ -453,6 +619,13 @@ class VectorCoverage(Coverage):
             self.counts["one sheet by all six methods, with unlike looks"] += unlike
 
     def first_line(self, given):
+        if ref.parse_input(given) and len(given) <= ref.LONGEST_INPUT:
+            method, k, pattern, text = ref.parse_input(given)
+            sound = not ref.refuse_terms(pattern, k, method)
+            self.counts["outputs of a record with a lost hour"] += sound and ref.LOST in text
+        elif b"-" in given.split(b"\n")[0][4:]:
+            number = 6 if len(given) > ref.LONGEST_INPUT else 11
+            self.beside_lost.add(("a first line with a lost hour", "number", number))
         if ref.parse_input(given) is None:
             if len(given) > ref.LONGEST_INPUT:
                 self.counts["a bad first line of an input over 16,384 bytes"] += 1
@@ -529,7 +702,7 @@ class VectorCoverage(Coverage):
             yield "window", m
         for method in METHODS:
             yield "method", method
-        for c in range(256):
+        for c in set(range(256)) - {ref.LOST}:
             yield "reading", c, "of the pattern"
         for c in (0, 10, 12, 13, 31, 32, 33, 45, 46, 126, 127, 128, 255):
             yield "reading", c, "else"
@@ -613,6 +786,99 @@ class VectorCoverage(Coverage):
                 for bits in (64, 65) if v < 63 else ():
                     yield "a letter that comes", v, "method", method, "bits", bits
 
+    def wanted_beside_lost(self):
+        """Records of nothing else; the example of the request; a lost hour at each place
+        of short windows, alone and however their scan ends; pairs with one and with two;
+        top bits of method 4 set before one; every kind of window that method 5 can have;
+        the letters beside the mark; and every window of short patterns."""
+        for method in METHODS:
+            for m in (1, 2, 3, 64):
+                yield "nothing else, method", method, "k = 0", "m", m
+            for m in (2, 3, 64) if method in (1, 4) else ():
+                yield "nothing else, method", method, "k > 0", "m", m
+            for c in BESIDE_LOST:
+                yield "reading", c, "method", method, "own", False
+            for op in (WHOLE, FEED, MARKED, REPORT):
+                yield "the example", NAMES[op], "method", method
+            for at in range(3):
+                yield "a record of one window, method", method, "m", 3, "at", at
+            for m in (1, 2, 3, 4):
+                for at in range(m):
+                    yield from self.wanted_at(method, m, at)
+        yield "method", 3, "k > 0", False, "m", 5, 0, "a match"
+        for kinds in (("lost", "lost"), ("lost", "own"), ("own", "lost"), ("lost",)):
+            yield "step", kinds, "gone on"
+        for kinds in itertools.product(("lost", "own", "strange"), repeat=2):
+            if kinds.count("lost") == 1:
+                yield "step", kinds, "left"
+        for k in (1, 2, 3):
+            for errors, bits in itertools.product(range(1, k + 1), ("shared", "own", "both")):
+                for end in ("a match", "left") if bits != "both" or errors > 1 else ():
+                    yield "top bits", bits, "errors", errors, "of", k, end
+        for exact in (True, False):
+            for kind in itertools.product((True, False), repeat=3):
+                lost, equal, match = kind
+                possible = not (exact and lost and equal) and (lost or equal or not match)
+                if possible and not (exact and equal and not match):
+                    yield "exact", exact, "lost, equal sum, match", kind
+            for equal in (True, False):
+                yield "exact", exact, (True, False), "then", (False, equal)
+                yield "exact", exact, (False, equal), "then", (True, False)
+        yield "exact", False, (True, True), "then", (False, True)
+        yield "exact", False, (False, True), "then", (True, True)
+        for pattern in (b"ab", b"aab", b"aabb"):
+            for k, method in itertools.product(range(len(pattern)), METHODS):
+                for window in itertools.product(b"ab-x", repeat=len(pattern)):
+                    if ref.LOST in window and (k == 0 or method in (1, 4)):
+                        yield pattern, k, method, bytes(window)
+
+    def wanted_at(self, method, m, at):
+        """One lost hour of a window, there: backward methods leave a window before they
+        come to it and after it; pairs are left at it where its neighbour is the error."""
+        for errors in (False, True) if method in (1, 4) and m > 2 else (False,):
+            yield "method", method, "k > 0", errors, "m", m, at, "a match"
+        if method in (1, 5, 6) and m > (2 if method == 6 else 1):
+            yield "method", method, "k > 0", False, "m", m, at, "none"
+        if method in (2, 4, 6) and at < m - 1:
+            yield "method", method, "k > 0", False, "m", m, at, "left before"
+        if method in (2, 3, 4, 6) and at > (1 if method == 3 else 0):
+            yield "method", method, "k > 0", False, "m", m, at, "left after"
+
+    def wanted_over_lost_seams(self):
+        """Each kind of seam by every method, within a match and not, which after a tail
+        of nothing else takes k = 0; every change of method, and an image, within a
+        match."""
+        kinds = "last of the tail", "first of the piece", "on both sides", "a piece of one"
+        for method, match in itertools.product(METHODS, (True, False)):
+            for errors in (False, True) if method in (1, 4) else (False,):
+                for kind in kinds:
+                    yield "seam", kind, "method", method, "k > 0", errors, match
+                if match or not errors:
+                    yield "seam", "all of the tail", "method", method, "k > 0", errors, match
+        for change in itertools.permutations(METHODS, 2):
+            yield "a match across a change", "from method %d to %d" % change
+        for method in METHODS:
+            yield "a match across a change", "by an image of method %d" % method
+
+    def wanted_13(self):
+        """By each call, by the place in the pattern and by the pattern of several; past
+        the lengths it isn't one."""
+        for op in (WHOLE, OPEN, LOAD, MARKED, REPORT, FEED, SET_METHOD, SAVE):
+            for m in (1, 2, 3, 64):
+                every = {place_in(at, m) for at in (0, m // 2, m - 1)}
+                if op in (FEED, SET_METHOD, SAVE):
+                    every = {place_in(m // 2, m)} if m < 64 else {"first", "last"}
+                for place in every if m < 64 or op not in (MARKED, REPORT) else ():
+                    yield NAMES[op], "number 13", "m", m, place
+        for count in (1, 2, 3, 8):
+            for at in {0, count // 2, count - 1}:
+                yield "13 of", count, "patterns, by the", place_in(at, count)
+        for op in (FEED, SET_METHOD, SAVE):
+            yield NAMES[op], "lost past the pattern's length"
+            yield NAMES[op], "lost past the tail's length"
+        for number in (6, 11):
+            yield "a first line with a lost hour", "number", number
+
     def gaps(self):
         missing = []
         for op, numbers in NUMBERS.items():
@@ -632,7 +898,7 @@ class VectorCoverage(Coverage):
             for bits in range(62, 68):
                 if (method, bits) not in self.bits:
                     missing.append("method %d, %d bits" % (method, bits))
-        for number in (1, 2, 3, 4, 5, 6, 11):
+        for number in (1, 2, 3, 4, 5, 6, 11, 13):
             if "refused %d" % number not in self.answers:
                 missing.append("the program's refusal %d" % number)
         for kind, fewest in FEWEST.items():
@@ -653,13 +919,18 @@ class VectorCoverage(Coverage):
             for reached in wanted():
                 if reached not in self.by_letters:
                     missing.append("method 6: %s" % (reached,))
+        for wanted in (self.wanted_beside_lost, self.wanted_over_lost_seams, self.wanted_13):
+            for reached in wanted():
+                if reached not in self.beside_lost:
+                    missing.append("lost hours: %s" % (reached,))
         for order in ORDERS:
             number = 0 if order == (1, 2, 3, 4) else 9
             if (order, number) not in self.orders:
                 missing.append("an image in the order %r with number %d" % (order, number))
-        if min(len(self.in_pattern), len(self.in_text), len(self.in_several)) < 256:
+        letters = set(range(256)) - {ref.LOST}
+        if self.in_pattern != letters or self.in_several != letters or len(self.in_text) < 256:
             missing.append("byte values")
-        if min(len(self.known), len(self.lacking)) < 256:
+        if self.known != letters or self.lacking != letters:
             missing.append("byte values of method 6")
         # The longest text and pattern, and every window verified.
         if self.most_looks < 2 * 64 * (65536 - 64 + 1):

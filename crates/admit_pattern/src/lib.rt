@@ -1,4 +1,4 @@
-// Which patterns, tolerances and methods are taken: document 01, "When a call says no", 1 to 5; document 02, T-03 and T-04.
+// Which patterns, tolerances and methods are taken: document 01, "When a call says no", 1 to 5; document 02, T-03, T-04 and, for 13, T-07.
 
 ghost use mathlib.Core.Path.{_≡_};
 ghost use Prim.Native.Nat.{_≤_};
@@ -10,6 +10,7 @@ ghost use Rattle.answers.specs.declared.Admission.the-variants.{Refused};
 ghost use Rattle.admit_pattern.specs.Admits.{Admits};
 use answers::Admission;
 use answers::Refusal;
+use table_parikh::LOST_HOUR;
 
 // The longest pattern.
 pub const LONGEST_PATTERN: usize = 64;
@@ -68,7 +69,7 @@ pub fn refused_pattern(refusal: Refusal) -> AdmittedPattern
     }
 }
 
-// Of a pattern, a tolerance and a method: 1 to 5, the first that applies.
+// Of a pattern, a tolerance and a method: 1, 13, 2 to 5, the first that applies.
 pub fn admit(pattern: &[u8], k: u8, method: u8) -> AdmittedPattern
     ensures { λ r. ⌜ Admits (now (pattern .entry)) (given (patternTests (now (pattern .entry)) k method)) r ⌝ }
 {
@@ -79,10 +80,13 @@ pub fn admit(pattern: &[u8], k: u8, method: u8) -> AdmittedPattern
     if LONGEST_PATTERN < m {
         return refused_pattern(Refusal::PatternLength);
     }
+    let counts = table_parikh::counts(pattern);
+    if 0 < counts[LOST_HOUR as usize] {
+        return refused_pattern(Refusal::LostHourInPattern);
+    }
     if m <= k as usize {
         return refused_pattern(Refusal::ToleranceTooLarge);
     }
-    let counts = table_parikh::counts(pattern);
     let admission = admit_method(pattern, &counts, k, method);
     if let Admission::Refused(refusal) = admission {
         return refused_pattern(refusal);

@@ -1,14 +1,15 @@
 -- What it says that none of the tests of several patterns, of a text and of two lists is given, and which numbers they give.
 use mathlib.Core.Path.{_≡_, refl, sym, ap, _∙_}
-use mathlib.Core.Bool.{Bool, not, _||_}
+use mathlib.Core.Bool.{Bool, false, not, _||_}
 use mathlib.Core.List.{List, _++_, append-assoc}
 use Prim.Native.Nat.{ℕ, _*_, _≤_, _<_}
 use native.Mathlib.Omega.{arith}
 use lib.Dec.{eqb, ltb}
 use lib.ListN.{length, getD}
 use borrow.Author.Tests.{eqb-true, eqb-false, ltb-false, not-false}
-use Rattle.jumbled.specs.Refusals.{given, anyOf, total, badLength, eachLengthTests, setTests, toleranceTests, textTests, pairPlaceTests, severalPatternTests, severalSizeTests}
-use Rattle.jumbled.proofs.Admission.{or-false, Numbered, none, next, given-one, given-append, given-append-none, numbered-append, tolerance-numbered, tolerance-taken, text-numbered, text-taken}
+use Rattle.jumbled.specs.Match.{occurs, lostHour}
+use Rattle.jumbled.specs.Refusals.{Test, given, anyOf, total, badLength, eachLengthTests, setTests, lostTests, toleranceTests, textTests, pairPlaceTests, severalPatternTests, severalSizeTests}
+use Rattle.jumbled.proofs.Admission.{or-false, Numbered, none, next, given-one, given-append, given-append-none, numbered-append, lost-numbered, lost-taken, tolerance-numbered, tolerance-taken, text-numbered, text-taken}
 use Rattle.jumbled.proofs.Selections.{none-at, Alike, total-alike}
 use Rattle.answers.specs.Numbers.{unlessRefused}
 
@@ -62,33 +63,44 @@ module _ (lengths : List ℕ) (bytes : ℕ) where
       positive : (n : ℕ) → (n ≡ 0 → ⊥) → 1 ≤ n
       positive n h = omega arith
 
--- ---- then 2
+-- ---- then 13 and 2
 
-module _ (lengths : List ℕ) (bytes k : ℕ) where
-  -- the tests of the patterns, and then that of k
-  several-pattern-tests : severalPatternTests lengths bytes k ≡ (eachLengthTests lengths ++ setTests lengths bytes) ++ toleranceTests (getD lengths 0 0) k
+module _ (lengths patterns : List ℕ) (k : ℕ) where
+  -- the tests of the set, and then those of the bytes and of k
+  abbrev setPart : List Test
+  setPart = eachLengthTests lengths ++ setTests lengths (length patterns)
+
+  abbrev rest : List Test
+  rest = lostTests patterns ++ toleranceTests (getD lengths 0 0) k
+
+  several-pattern-tests : severalPatternTests lengths patterns k ≡ setPart ++ rest
   unfolding severalPatternTests
-  several-pattern-tests = sym (append-assoc (eachLengthTests lengths) (setTests lengths bytes) (toleranceTests (getD lengths 0 0) k))
+  several-pattern-tests = sym (append-assoc (eachLengthTests lengths) (setTests lengths (length patterns)) rest)
 
-  pub several-pattern-numbered : Numbered (severalPatternTests lengths bytes k)
-  several-pattern-numbered =
-      rw several-pattern-tests (numbered-append _ (toleranceTests (getD lengths 0 0) k) (admit-set-numbered lengths bytes) (tolerance-numbered (getD lengths 0 0) k))
+  rest-numbered : Numbered rest
+  rest-numbered = numbered-append (lostTests patterns) _ (lost-numbered patterns) (tolerance-numbered (getD lengths 0 0) k)
 
-  pub several-pattern-number :
-      given (severalPatternTests lengths bytes k)
-      ≡ unlessRefused (given (eachLengthTests lengths ++ setTests lengths bytes)) (given (toleranceTests (getD lengths 0 0) k))
-      (given (eachLengthTests lengths ++ setTests lengths bytes))
-  several-pattern-number = ap given several-pattern-tests ∙ given-append _ (toleranceTests (getD lengths 0 0) k) (admit-set-numbered lengths bytes)
+  pub several-pattern-numbered : Numbered (severalPatternTests lengths patterns k)
+  several-pattern-numbered = rw several-pattern-tests (numbered-append setPart rest (admit-set-numbered lengths (length patterns)) rest-numbered)
+
+  pub several-pattern-number : given (severalPatternTests lengths patterns k) ≡ unlessRefused (given setPart) (given rest) (given setPart)
+  several-pattern-number = ap given several-pattern-tests ∙ given-append setPart rest (admit-set-numbered lengths (length patterns))
 
   -- what it says that none of them applies
   pub record SeveralTaken : Type 0 where
-    pub set : SetTaken lengths bytes
+    pub set : SetTaken lengths (length patterns)
+    pub none-lost : occurs patterns lostHour ≡ false
     pub within : k < getD lengths 0 0
 
-  pub several-taken : given (severalPatternTests lengths bytes k) ≡ 0 → SeveralTaken
+  pub several-taken : given (severalPatternTests lengths patterns k) ≡ 0 → SeveralTaken
   several-taken e =
-      let parts = given-append-none _ (toleranceTests (getD lengths 0 0) k) (admit-set-numbered lengths bytes) (ap given (sym several-pattern-tests) ∙ e) in
-      record { set = set-taken lengths bytes (parts .0); within = tolerance-taken (getD lengths 0 0) k (parts .1) }
+      let parts = given-append-none setPart rest (admit-set-numbered lengths (length patterns)) (ap given (sym several-pattern-tests) ∙ e) in
+      let last = given-append-none (lostTests patterns) (toleranceTests (getD lengths 0 0) k) (lost-numbered patterns) (parts .1) in
+      record {
+        set = set-taken lengths (length patterns) (parts .0);
+        none-lost = lost-taken patterns (last .0);
+        within = tolerance-taken (getD lengths 0 0) k (last .1);
+      }
 
 -- ---- 6 and 7
 

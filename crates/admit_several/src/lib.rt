@@ -1,4 +1,5 @@
-// Which patterns are taken together, and which texts and lists with them: document 02, T-01, and document 01, "When a call says no", 1, 2, 6 and 7.
+// Which patterns are taken together, and which texts and lists with them: document 02, T-01 and, for 13, T-07, and document 01, "When a call says no",
+// 1, 2, 6 and 7.
 
 ghost use mathlib.Core.Path.{_≡_};
 ghost use mathlib.Core.Bool.{not};
@@ -67,13 +68,16 @@ fn admit_set(lengths: &[usize], bytes: usize) -> Admission
     Admission::Accepted
 }
 
-// Of several patterns and their tolerance: 1, 12, 2, the first that applies.
-pub fn admit(lengths: &[usize], bytes: usize, k: u8) -> Admission
-    ensures { λ r. ⌜ admissionNumber r ≡ given (severalPatternTests (now (lengths .entry)) bytes k) ⌝ }
+// Of several patterns, whose bytes follow one another, and their tolerance: 1, 12, 13, 2, the first that applies.
+pub fn admit(lengths: &[usize], patterns: &[u8], k: u8) -> Admission
+    ensures { λ r. ⌜ admissionNumber r ≡ given (severalPatternTests (now (lengths .entry)) (now (patterns .entry)) k) ⌝ }
 {
-    let set = admit_set(lengths, bytes);
+    let set = admit_set(lengths, patterns.len());
     if let Admission::Refused(refusal) = set {
         return Admission::Refused(refusal);
+    }
+    if 0 < table_parikh::lost_hours(patterns) {
+        return Admission::Refused(Refusal::LostHourInPattern);
     }
     if lengths[0] <= k as usize {
         return Admission::Refused(Refusal::ToleranceTooLarge);

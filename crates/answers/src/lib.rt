@@ -18,6 +18,7 @@ pub enum Refusal {
     BufferTooShort,
     BadRequest,
     PatternSet,
+    LostHourInPattern,
 }
 
 // The number that the table gives a refusal.
@@ -37,6 +38,7 @@ pub fn number_of(refusal: Refusal) -> usize
         Refusal::BufferTooShort => 10,
         Refusal::BadRequest => 11,
         Refusal::PatternSet => 12,
+        Refusal::LostHourInPattern => 13,
     }
 }
 

@@ -161,9 +161,10 @@ pub fn ebl_chunk(
         (now (list .entry)) (now (list .exit)) r ⌝ }
 {
     let m = pattern.len();
+    let allowed = table_parikh::allowances(counts);
     let occurs = table_parikh::occurring(pattern);
-    let first = loop_ebl::ebl(m, counts, &occurs, seam, split.over_tail, list);
-    let second = loop_ebl::ebl(m, counts, &occurs, chunk, rest_of(split, first), list);
+    let first = loop_ebl::ebl(m, &allowed, &occurs, seam, split.over_tail, list);
+    let second = loop_ebl::ebl(m, &allowed, &occurs, chunk, rest_of(split, first), list);
     SearchCounts {
         found: second.at,
         inspections: first.inspections + second.inspections,

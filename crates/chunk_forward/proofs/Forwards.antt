@@ -5,13 +5,12 @@ use mathlib.Core.List.{List}
 use Prim.Native.Nat.{ℕ, _+_, _-_, _^_, _≤_, _<_}
 use native.Mathlib.Nat.{le-refl}
 use native.Mathlib.Omega.{arith}
-use lib.Dec.{eqb}
 use lib.ListN.{length, take, drop}
 use lib.Seq.{drop-append-seam, take-take}
-use Rattle.jumbled.specs.Match.{matches, windowPrefix}
-use Rattle.jumbled.specs.Heap.{heapSum, exact}
-use Rattle.jumbled.specs.Steps.{countJudged, hcamJudged}
-use Rattle.jumbled.specs.Scan.{Result, Judged, unverified, forward}
+use Rattle.jumbled.specs.Match.{windowPrefix}
+use Rattle.jumbled.specs.Steps.{countJudged, verified, hcamJudged}
+use Rattle.jumbled.proofs.Positions.{hcam-verification}
+use Rattle.jumbled.specs.Scan.{Result, Judged, forward}
 use Rattle.jumbled.proofs.Cuts.{_then_, moved, forward-count, forward-most}
 use Rattle.lent.specs.Found.{Found}
 use Rattle.lent.specs.Loops.{Fitting, Listed}
@@ -30,14 +29,11 @@ count-few P k W = omega arith
 
 -- a verification takes the window's bytes
 pub hcam-few : (P : List ℕ) {m : ℕ} → length P ≡ m → m ≤ 64 → (W : List ℕ) → hcamJudged P W .verification ≤ 64
-unfolding hcamJudged
-hcam-few P sized short W = case (eqb (heapSum P W) (heapSum P P)) (exact P)
+hcam-few P sized short W = rw (hcam-verification P W) (case (verified P W))
   where
-    case : (t x : Bool)
-        → cond t (cond x (unverified true) (record { listed = matches P 0 W; verification = length P })) (unverified false) .verification ≤ 64
-    case true true = omega arith
-    case true false = omega arith
-    case false x = omega arith
+    case : (t : Bool) → cond t (length P) 0 ≤ 64
+    case true = omega arith
+    case false = omega arith
 
 -- what the windows that start in the tail yield
 abbrev pub seamed : (List ℕ → Judged) → ℕ → List ℕ → Split → Result

@@ -6,7 +6,7 @@ use lib.ListN.{length}
 use Rattle.jumbled.specs.Match.{windowPrefix}
 use Rattle.jumbled.specs.Scan.{forward}
 use Rattle.jumbled.specs.Steps.{countJudged}
-use Rattle.table_parikh.specs.Table.{parikh}
+use Rattle.table_parikh.specs.Table.{allowances}
 use Rattle.lent.specs.declared.SearchCounts.{SearchCounts}
 use Rattle.lent.specs.declared.Range.{Range}
 use Rattle.lent.specs.Loops.{Listed}
@@ -24,10 +24,10 @@ CountFound P k seam chunk split before after r =
 
 -- ---- the windows of the seam
 
--- For windows of m bytes and some pattern, whose counts are given
+-- For windows of m bytes and some pattern, whose allowances are given
 pub record CountableSeam (m : ℕ) (allowed T : List ℕ) (range : Range) (list : List ℕ) : Type 0 where
   pub of : List ℕ
-  pub pattern-counts : allowed ≡ parikh of
+  pub allows : allowed ≡ allowances of
   pub startable : Startable m T range list
 
 -- The windows of a range from the first one on, m - 1 inspections made before

@@ -6,7 +6,7 @@ use lib.ListN.{length}
 use Rattle.jumbled.specs.Match.{windowPrefix}
 use Rattle.jumbled.specs.Scan.{forward}
 use Rattle.jumbled.specs.Steps.{hcamJudged}
-use Rattle.table_parikh.specs.Table.{parikh}
+use Rattle.table_parikh.specs.Table.{allowances}
 use Rattle.table_heap.specs.declared.Target.{Target}
 use Rattle.table_heap.specs.Table.{HeapTabled}
 use Rattle.lent.specs.declared.SearchCounts.{SearchCounts}
@@ -26,18 +26,18 @@ HcamFound P seam chunk split before after r =
 
 -- ---- the windows of the seam
 
--- For some pattern of m bytes, whose counts and values are given
+-- For some pattern of m bytes, whose allowances and values are given
 pub record HashableSeam (m : ℕ) (allowed values : List ℕ) (target : Target) (T : List ℕ) (range : Range) (list : List ℕ) : Type 0 where
   pub of : List ℕ
   pub sized : length of ≡ m
-  pub pattern-counts : allowed ≡ parikh of
+  pub allows : allowed ≡ allowances of
   pub tabled : HeapTabled of values target
   pub startable : Startable m T range list
 
 -- The windows of a range from the first one on, m - 1 inspections made before
 pub record HashedSeam (P : List ℕ) (m : ℕ) (T : List ℕ) (range : Range) (before after : List ℕ) (r : Hashed) : Type 0 where
   pub listed : Listed (primed (m - 1) (forward (hcamJudged P) m T 0 (range .«end») 1)) range before after (r .at) (r .inspections)
-  pub state : Summing P (windowPrefix m T (range .«end»)) (r .summed .sum)
+  pub state : Summing P (windowPrefix m T (range .«end»)) (r .summed)
 
 abbrev pub HashesSeam : ℕ → List ℕ → List ℕ → Target → List ℕ → Range → List ℕ → List ℕ → Hashed → Type 0
 HashesSeam m allowed values target T range before after r =

@@ -41,7 +41,8 @@ pub fn count_chunk(
     ensures { λ r. ⌜ CountFound (now (pattern .entry)) k (now (seam .entry)) (now (chunk .entry)) split (now (list .entry)) (now (list .exit)) r ⌝ }
 {
     let m = pattern.len();
-    let first = count_seam(m, counts, k, seam, split.over_tail, list);
+    let allowed = table_parikh::allowances(counts);
+    let first = count_seam(m, &allowed, k, seam, split.over_tail, list);
     if split.over_chunk.end == 0 {
         return SearchCounts {
             found: first.at,
@@ -50,7 +51,7 @@ pub fn count_chunk(
     }
     let mut over_chunk = split.over_chunk;
     over_chunk.at = first.at;
-    let second = loop_count::count_windows(m, counts, k, chunk, first.sliding, over_chunk, list);
+    let second = loop_count::count_windows(m, &allowed, k, chunk, first.sliding, over_chunk, list);
     let inspections = first.inspections + second.inspections;
     SearchCounts {
         found: second.at, // the seam's positions are in the places before
@@ -102,7 +103,8 @@ pub fn hcam_chunk(
     let m = pattern.len();
     let mut values = [0u64; 256];
     let target = table_heap::fill_values(pattern, counts, &mut values);
-    let first = hcam_seam(m, counts, &values, target, seam, split.over_tail, list);
+    let allowed = table_parikh::allowances(counts);
+    let first = hcam_seam(m, &allowed, &values, target, seam, split.over_tail, list);
     if split.over_chunk.end == 0 {
         return SearchCounts {
             found: first.at,
@@ -113,7 +115,7 @@ pub fn hcam_chunk(
     over_chunk.at = first.at;
     let second = loop_hcam::hcam_windows(
         m,
-        counts,
+        &allowed,
         &values,
         target,
         chunk,

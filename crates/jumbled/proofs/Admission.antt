@@ -9,8 +9,9 @@ use native.Mathlib.Omega.{arith}
 use lib.Dec.{leb, ltb, eqb, eqb·suc-zero}
 use lib.ListN.{length}
 use borrow.Author.Tests.{leb-true, leb-false, ltb-true, ltb-false, lt-ltb, le-ltb, eqb-true, eqb-false, eq-eqb, ne-eqb, not-false}
+use Rattle.jumbled.specs.Match.{occurs, lostHour}
 use Rattle.jumbled.specs.Fields.{layoutOf, bits}
-use Rattle.jumbled.specs.Refusals.{Test, test, given, isMethod, exactOnly, lengthTests, toleranceTests, knownTests, exactTests, widthTests, textTests, inputTests, placeTests, totalTests, tailLength, tailTests, bufferTests, lineTests, methodTests, patternTests, sizeTests, wholeTests, searchTests, chunkTests, requestTests, programTests}
+use Rattle.jumbled.specs.Refusals.{Test, test, given, isMethod, exactOnly, lengthTests, lostTests, toleranceTests, knownTests, exactTests, widthTests, textTests, inputTests, placeTests, totalTests, tailLength, tailTests, bufferTests, lineTests, methodTests, patternTests, sizeTests, wholeTests, searchTests, chunkTests, requestTests, programTests}
 
 pub or-false : (a b : Bool) → (a || b) ≡ false → (a ≡ false) × (b ≡ false)
 or-false true b e = absurd (true≢false e)
@@ -104,7 +105,7 @@ unfolding given
 given-one (next {n = n} {b = true} row more) e = absurd (positive n row e)
 given-one (next {b = false} row more) e = refl
 
--- ---- 1 and 2
+-- ---- 1, 13 and 2
 
 pub length-numbered : (m : ℕ) → Numbered (lengthTests m)
 unfolding lengthTests
@@ -123,6 +124,15 @@ length-taken m e =
   where
     some : (m ≡ 0 → ⊥) → 0 < m
     some h = omega arith
+
+pub lost-numbered : (P : List ℕ) → Numbered (lostTests P)
+unfolding lostTests
+lost-numbered P = next refl none
+
+-- what it says that 13 does not apply
+pub lost-taken : (P : List ℕ) → given (lostTests P) ≡ 0 → occurs P lostHour ≡ false
+unfolding lostTests
+lost-taken P e = given-one (lost-numbered P) e
 
 pub tolerance-numbered : (m k : ℕ) → Numbered (toleranceTests m k)
 unfolding toleranceTests
@@ -192,17 +202,19 @@ method-numbered P k method =
     numbered-append (knownTests method) _ (known-numbered method)
     (numbered-append (exactTests k method) (widthTests P k method) (exact-numbered k method) (width-numbered P k method))
 
--- ---- 1 to 5
+-- ---- the tests of open
 
 pub pattern-numbered : (P : List ℕ) (k method : ℕ) → Numbered (patternTests P k method)
 unfolding patternTests
 pattern-numbered P k method =
     numbered-append (lengthTests (length P)) _ (length-numbered (length P))
-    (numbered-append (toleranceTests (length P) k) (methodTests P k method) (tolerance-numbered (length P) k) (method-numbered P k method))
+    (numbered-append (lostTests P) _ (lost-numbered P)
+    (numbered-append (toleranceTests (length P) k) (methodTests P k method) (tolerance-numbered (length P) k) (method-numbered P k method)))
 
 -- nothing of them is given exactly where nothing of each part is
 record PartsTaken (P : List ℕ) (k method : ℕ) : Type 0 where
   length-right : given (lengthTests (length P)) ≡ 0
+  none-lost : given (lostTests P) ≡ 0
   tolerance-right : given (toleranceTests (length P) k) ≡ 0
   method-right : given (methodTests P k method) ≡ 0
 
@@ -210,19 +222,22 @@ parts-taken : (P : List ℕ) (k method : ℕ) → given (patternTests P k method
 unfolding patternTests
 parts-taken P k method e =
     let first = given-append-none (lengthTests (length P)) _ (length-numbered (length P)) e in
-    let second = given-append-none (toleranceTests (length P) k) _ (tolerance-numbered (length P) k) (first .1) in
-    record { length-right = first .0; tolerance-right = second .0; method-right = second .1 }
+    let second = given-append-none (lostTests P) _ (lost-numbered P) (first .1) in
+    let third = given-append-none (toleranceTests (length P) k) _ (tolerance-numbered (length P) k) (second .1) in
+    record { length-right = first .0; none-lost = second .0; tolerance-right = third .0; method-right = third .1 }
 
 taken-parts : (P : List ℕ) (k method : ℕ) → PartsTaken P k method → given (patternTests P k method) ≡ 0
 unfolding patternTests
 taken-parts P k method parts =
     given-none-append (lengthTests (length P)) _ (length-numbered (length P)) (parts .length-right)
-    (given-none-append (toleranceTests (length P) k) _ (tolerance-numbered (length P) k) (parts .tolerance-right) (parts .method-right))
+    (given-none-append (lostTests P) _ (lost-numbered P) (parts .none-lost)
+    (given-none-append (toleranceTests (length P) k) _ (tolerance-numbered (length P) k) (parts .tolerance-right) (parts .method-right)))
 
 -- what it says that none of them applies
 pub record Admitted (P : List ℕ) (k method : ℕ) : Type 0 where
   pub some : 0 < length P
   pub short : length P ≤ 64
+  pub none-lost : occurs P lostHour ≡ false
   pub within : k < length P
   pub taken : MethodTaken P k method
 
@@ -233,6 +248,7 @@ admitted P k method e =
     record {
       some = length-right .some;
       short = length-right .short;
+      none-lost = lost-taken P (parts .none-lost);
       within = tolerance-taken (length P) k (parts .tolerance-right);
       taken = method-taken P k method (parts .method-right);
     }
@@ -247,7 +263,7 @@ pub method-changed : (P : List ℕ) (k method newMethod : ℕ) → given (patter
 method-changed P k method newMethod old new =
     let parts = parts-taken P k method old in
     taken-parts P k newMethod
-    (record { length-right = parts .length-right; tolerance-right = parts .tolerance-right; method-right = new })
+    (record { length-right = parts .length-right; none-lost = parts .none-lost; tolerance-right = parts .tolerance-right; method-right = new })
 
 -- ---- 6, 7 and 8
 
@@ -295,7 +311,7 @@ pub size-fits : (bytes places : ℕ) → bytes ≤ 65536 → bytes ≤ places �
 unfolding sizeTests textTests placeTests given
 size-fits bytes places short room = rw (le-ltb 65536 bytes short, le-ltb places bytes room) refl
 
--- ---- 1 to 7
+-- ---- the tests of whole search
 
 pub whole-numbered : (P : List ℕ) (k method bytes places : ℕ) → Numbered (wholeTests P k method bytes places)
 unfolding wholeTests
@@ -356,7 +372,7 @@ module _ (P : List ℕ) (k method n t : ℕ) where
   unfolding searchTests
   search-numbered = numbered-append (patternTests P k method) (tailTests (length P) n t) (pattern-numbered P k method) (tail-numbered (length P) n t)
 
-  -- the tests of a search's parts: nothing is given exactly where nothing of 1 to 5 is, and the tail is as long as it should be
+  -- the tests of a search's parts: nothing is given exactly where nothing of open's is, and the tail is as long as it should be
   pub search-taken : given (searchTests P k method n t) ≡ 0 → (given (patternTests P k method) ≡ 0) × (t ≡ tailLength (length P) n)
   unfolding searchTests
   search-taken e =

@@ -3,9 +3,9 @@
 use mathlib.Core.Path.{_≡_, refl}
 use mathlib.Core.List.{List, [], _∷_}
 use Prim.Native.Nat.{ℕ, zero, suc, _+_}
-use Rattle.jumbled.specs.Match.{cc, sum}
+use Rattle.jumbled.specs.Match.{cc, occurs, sum}
 use Rattle.jumbled.specs.Fields.{first, lg, letterWidth, layoutOf, widthOf, bits}
-use Rattle.jumbled.specs.Refusals.{given, isMethod, exactOnly, lengthTests, toleranceTests, knownTests, exactTests, widthTests, methodTests, patternTests}
+use Rattle.jumbled.specs.Refusals.{given, isMethod, exactOnly, lengthTests, lostTests, toleranceTests, knownTests, exactTests, widthTests, methodTests, patternTests}
 use Rattle.jumbled.specs.Former.{formerLayoutOf, formerMethodTests, formerPatternTests}
 
 -- The bytes of `a` and of the n - 1 letters after it, the last first, once each
@@ -18,7 +18,7 @@ thrice : (n : ℕ) → List ℕ → List ℕ
 thrice zero more = more
 thrice (suc n) more = (97 + n) ∷ (97 + n) ∷ (97 + n) ∷ thrice n more
 
--- The bits that a pattern's fields need, and the number that 1 to 5 give, by k and the method
+-- The bits that a pattern's fields need, and the number that the tests of open give, by k and the method
 measured : (P : List ℕ) (k method : ℕ) → ℕ × ℕ
 measured P k method = (bits P (layoutOf k method), given (patternTests P k method))
 
@@ -48,7 +48,7 @@ record Approximate : Type 0 where
   passes-4-more : measured (once 16) 3 4 ≡ (68, 5)
 
 edges : Thrice × ThriceBefore × Approximate
-unfolding once thrice measured measuredBefore cc sum first lg letterWidth layoutOf widthOf bits given isMethod exactOnly lengthTests toleranceTests knownTests exactTests widthTests methodTests patternTests formerLayoutOf formerMethodTests formerPatternTests
+unfolding once thrice measured measuredBefore cc occurs sum first lg letterWidth layoutOf widthOf bits given isMethod exactOnly lengthTests lostTests toleranceTests knownTests exactTests widthTests methodTests patternTests formerLayoutOf formerMethodTests formerPatternTests
 edges = (
   record { fits-2 = refl; passes-3 = refl; fits-3 = refl; passes-2 = refl },
   record { passed-2 = refl; passed-3 = refl; passed-3-less = refl; passed-2-more = refl },

@@ -5,17 +5,18 @@ use mathlib.Core.List.{List, [], _∷_, _++_, append-assoc, append-nil, reverse,
 use Prim.Native.Nat.{ℕ, _+_, _≤_, _<_}
 use native.Mathlib.Omega.{arith}
 use lib.ListN.{length}
-use Rattle.jumbled.specs.Match.{Bytes, occurs, excess, matches}
+use Rattle.jumbled.specs.Match.{Bytes, occurs, lost, excess, matches}
 use Rattle.jumbled.specs.Scan.{Scanned, completed, stopped, scan, singles}
-use Rattle.jumbled.specs.Steps.{lacks, verifiedAfter, eblScan}
+use Rattle.jumbled.specs.Steps.{passes, lacks, verifiedAfter, eblScan}
+use Rattle.jumbled.proofs.Admission.{or-false}
 use Rattle.jumbled.proofs.Counts.{bytes-back, bytes-head, lacked, used-up, excess-cons}
 use Rattle.jumbled.proofs.Drivers.{Sound}
 use Rattle.jumbled.proofs.Scans.{Right, sound-of, stop-right, scan-most, by-singles}
 
--- Every byte of U occurs in P
+-- Every byte of U is read on past: P has it, or it is a lost hour
 pub data Occur (P : List ℕ) : List ℕ → Type 0 where
   none : Occur P []
-  next : {b : ℕ} {U : List ℕ} → occurs P b ≡ true → Occur P U → Occur P (b ∷ U)
+  next : {b : ℕ} {U : List ℕ} → passes P b ≡ true → Occur P U → Occur P (b ∷ U)
 
 -- the reading of a window's bytes from its right end
 reads : (P W : List ℕ) → Scanned
@@ -27,27 +28,27 @@ ReadTo P left R = reads P (left ++ R) ≡ scan (lacks P) (length P) R (singles (
 
 -- then the next one is
 one-more : (P left : List ℕ) (b : ℕ) (R : List ℕ) → ReadTo P (left ++ (b ∷ [])) R
-    → reads P (left ++ (b ∷ R)) ≡ cond (not (occurs P b)) (stopped (length P) (b ∷ R)) (scan (lacks P) (length P) (b ∷ R) (singles (reverse left)))
+    → reads P (left ++ (b ∷ R)) ≡ cond (not (passes P b)) (stopped (length P) (b ∷ R)) (scan (lacks P) (length P) (b ∷ R) (singles (reverse left)))
 unfolding scan singles lacks
 one-more P left b R to =
     ap (reads P) (sym (append-assoc left (b ∷ []) R)) ∙ to
     ∙ ap (λ (l : List ℕ). scan (lacks P) (length P) R (singles l)) (reverse-append left (b ∷ []))
 
--- as long as they occur in P
+-- as long as they are read on past
 reading : (P left R : List ℕ) → Occur P R → ReadTo P left R
 unfolding reads
 reading P left [] none = rw (append-nil left) refl
 reading P left (b ∷ R) (next there rest) = rw there at (one-more P left b R (reading P (left ++ (b ∷ [])) R rest))
 
--- A byte that P lacks, those after it occurring in P: the scan stops there, and has read it and these
-pub ebl-stops : (P left : List ℕ) (b : ℕ) (R : List ℕ) → occurs P b ≡ false → Occur P R → eblScan P (left ++ (b ∷ R)) ≡ stopped (length P) (b ∷ R)
+-- A byte that stops the scan, those after it being read on past: it stops there, and has read it and these
+pub ebl-stops : (P left : List ℕ) (b : ℕ) (R : List ℕ) → passes P b ≡ false → Occur P R → eblScan P (left ++ (b ∷ R)) ≡ stopped (length P) (b ∷ R)
 unfolding eblScan reads
 ebl-stops P left b R lacking rest =
     let stop : reads P (left ++ (b ∷ R)) ≡ stopped (length P) (b ∷ R)
     = rw lacking at (one-more P left b R (reading P (left ++ (b ∷ [])) R rest)) in
     rw stop refl
 
--- All bytes occur in P: they are read, and the window is verified
+-- All bytes are read on past: they are read, and the window is verified
 pub ebl-verifies : (P W : List ℕ) → Occur P W → eblScan P W ≡ record { listed = matches P 0 W; offset = 0; inspections = length W + length P }
 unfolding eblScan reads scan singles
 ebl-verifies P W all =
@@ -57,23 +58,26 @@ ebl-verifies P W all =
 -- one or the other
 data Met (P : List ℕ) : List ℕ → Type 0 where
   all : {W : List ℕ} → Occur P W → Met P W
-  lacking : (left : List ℕ) (b : ℕ) (R : List ℕ) → occurs P b ≡ false → Occur P R → Met P (left ++ (b ∷ R))
+  lacking : (left : List ℕ) (b : ℕ) (R : List ℕ) → passes P b ≡ false → Occur P R → Met P (left ++ (b ∷ R))
 
 meets : (P W : List ℕ) → Met P W
 meets P [] = all none
 meets P (c ∷ W) = longer (meets P W)
   where
-    test : {W : List ℕ} → Occur P W → (t : Bool) → occurs P c ≡ t → Met P (c ∷ W)
+    test : {W : List ℕ} → Occur P W → (t : Bool) → passes P c ≡ t → Met P (c ∷ W)
     test occur true e = all (next e occur)
     test {W} occur false e = lacking [] c W e occur
 
     longer : {W : List ℕ} → Met P W → Met P (c ∷ W)
     longer (lacking left b R e rest) = lacking (c ∷ left) b R e rest
-    longer (all occur) = test occur (occurs P c) refl
+    longer (all occur) = test occur (passes P c) refl
 
--- a byte that P lacks is an excess
-lacked-excess : (P : List ℕ) (b : ℕ) (R : List ℕ) → b < 256 → occurs P b ≡ false → 0 < excess P (b ∷ R)
-lacked-excess P b R byte e = rw (excess-cons P b R byte, used-up P R b (omega (arith, lacked P b e))) (omega arith)
+-- a byte that stops the scan is an excess
+lacked-excess : (P : List ℕ) (b : ℕ) (R : List ℕ) → b < 256 → passes P b ≡ false → 0 < excess P (b ∷ R)
+unfolding passes
+lacked-excess P b R byte e =
+    let parts = or-false (lost b) (occurs P b) e in
+    rw (excess-cons P b R byte, used-up P R b (parts .0) (omega (arith, lacked P b (parts .1)))) (omega arith)
 
 pub ebl-sound : (P : List ℕ) → Sound P 0 (eblScan P)
 ebl-sound P = sound-of (λ W b e. right W b e (meets P W))

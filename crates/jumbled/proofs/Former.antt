@@ -13,7 +13,7 @@ use Rattle.jumbled.specs.Match.{Bytes, cc, starts}
 use Rattle.jumbled.specs.Scan.{Result, singles, pairs}
 use Rattle.jumbled.specs.Fields.{lg, Layout, fieldCount, bamLayout, bam2Layout, layoutOf, widthOf, bits}
 use Rattle.jumbled.specs.Steps.{bamScan, bam2Scan, steps}
-use Rattle.jumbled.specs.Refusals.{Test, test, given, lengthTests, toleranceTests, knownTests, exactTests, widthTests, methodTests, patternTests}
+use Rattle.jumbled.specs.Refusals.{Test, test, given, lengthTests, lostTests, toleranceTests, knownTests, exactTests, widthTests, methodTests, patternTests}
 use Rattle.jumbled.specs.Former.{formerLayout, formerLayoutOf, packedSteps, formerSteps, formerMethodTests, formerPatternTests}
 use Rattle.jumbled.proofs.Sums.{sum-mono}
 use Rattle.jumbled.proofs.Counts.{bytes-nil, excess-nil}
@@ -134,7 +134,8 @@ method-amended P k method = amended-after (knownTests method) (amended-after (ex
 
 pub pattern-amended : (P : List ℕ) (k method : ℕ) → Amended (formerPatternTests P k method) (patternTests P k method)
 unfolding patternTests formerPatternTests
-pattern-amended P k method = amended-after (lengthTests (length P)) (amended-after (toleranceTests (length P) k) (method-amended P k method))
+pattern-amended P k method =
+    amended-after (lengthTests (length P)) (amended-after (lostTests P) (amended-after (toleranceTests (length P) k) (method-amended P k method)))
 
 pub number-as-before : (P : List ℕ) (k method : ℕ) → (given (formerPatternTests P k method) ≡ 5 → ⊥)
     → given (patternTests P k method) ≡ given (formerPatternTests P k method)

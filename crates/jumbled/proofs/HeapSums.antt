@@ -1,6 +1,6 @@
 -- Method 5's candidates: a window whose counts are the pattern's is one, and where (m + 1)^q ≤ 2^64 every candidate is such a window.
 use mathlib.Core.Path.{_≡_, refl, sym, ap, _∙_}
-use mathlib.Core.Bool.{Bool, true, false, cond}
+use mathlib.Core.Bool.{Bool, true, false, cond, not, _&&_, _||_, true≢false}
 use mathlib.Core.List.{List, [], _∷_}
 use mathlib.Core.Logic.{_⊎_, inl, inr, ⊎-elim}
 use Prim.Native.Nat.{ℕ, zero, suc, _+_, _-_, _*_, _%_, _/_, _^_, _≤_, _<_}
@@ -11,11 +11,12 @@ use lib.Dec.{eqb}
 use lib.Arith.{digits-lt, digits-div, digits-mod}
 use lib.ListN.{length}
 use borrow.Author.Tests.{eqb-true, eqb-false, leb-true, le-leb, lt-leb}
-use Rattle.jumbled.specs.Match.{Bytes, bit, cc, sum, excess, matches}
+use Rattle.jumbled.specs.Match.{Bytes, bit, cc, occurs, sum, lostHour, excess, matches}
 use Rattle.jumbled.specs.Heap.{rank, radix, heapValue, heapSum, exact}
 use Rattle.jumbled.specs.Scan.{Judged, unverified}
-use Rattle.jumbled.specs.Steps.{hcamJudged}
+use Rattle.jumbled.specs.Steps.{candidate, verified, hcamJudged}
 use Rattle.jumbled.proofs.Sums.{below-or-not, sum-zero, sum-suc, sum-ext, sum-add, sum-zeros, sum-point}
+use Rattle.jumbled.proofs.Admission.{or-false}
 use Rattle.jumbled.proofs.Ranks.{rank-next, rank-some, rank-none, heapValue-some, heapValue-none}
 use Rattle.jumbled.proofs.Counts.{bytes-head, bytes-tail, cc-nil, cc-cons, cc-length, counts-of-excess, counts-of-enough, excess-of-counts}
 
@@ -166,26 +167,28 @@ module _ (P : List ℕ) (hP : Bytes P) (W : List ℕ) (hW : Bytes W) (same : len
       (le-of-eq
       (excess-of-counts P W (candidate-counts P (leb-true (radix P ^ rank P 256) (2 ^ 64) x) W hP hW same e)))
 
-  -- and in any case a window that is no candidate does not match
-  others-differ : (heapSum P W ≡ heapSum P P → ⊥) → matches P 0 W ≡ false
+  -- and in any case a window without a lost hour that is no candidate does not match
+  others-differ : occurs W lostHour ≡ false → (heapSum P W ≡ heapSum P P → ⊥) → matches P 0 W ≡ false
   unfolding matches
-  others-differ differ =
-      ⊎-elim (λ (e : excess P W ≡ 0). absurd (differ (sum-of-counts P W hP hW (counts-of-excess P W hP hW same e))))
+  others-differ none differ =
+      ⊎-elim (λ (e : excess P W ≡ 0). absurd (differ (sum-of-counts P W hP hW (counts-of-excess P W hP hW same none e))))
       (λ (h : 0 < excess P W). lt-leb (excess P W) 0 h) (eq-zero-or-pos (excess P W))
 
-  pub hcam-judges : hcamJudged P W .listed ≡ matches P 0 W
-  unfolding hcamJudged
-  hcam-judges = case _ (eqb (heapSum P W) (heapSum P P)) refl
+  -- a window that is not verified is judged right by its sum
+  unverified-right : occurs W lostHour ≡ false → (candidate P W && not (exact P)) ≡ false → candidate P W ≡ matches P 0 W
+  unfolding candidate
+  unverified-right none sure = case (eqb (heapSum P W) (heapSum P P)) (exact P) refl refl sure
     where
-      -- whatever a verification takes
-      judgedAt : ℕ → Judged
-      judgedAt taken = record { listed = matches P 0 W; verification = taken }
+      case : (t x : Bool) → eqb (heapSum P W) (heapSum P P) ≡ t → exact P ≡ x → (t && not x) ≡ false → t ≡ matches P 0 W
+      case true true q x e = sym (candidate-matches x (eqb-true (heapSum P W) (heapSum P P) q))
+      case true false q x e = absurd (true≢false e)
+      case false x q known e = sym (others-differ none (eqb-false (heapSum P W) (heapSum P P) q))
 
-      certain : (taken : ℕ) (x : Bool) → exact P ≡ x → heapSum P W ≡ heapSum P P → cond x (unverified true) (judgedAt taken) .listed ≡ matches P 0 W
-      certain taken true x e = sym (candidate-matches x e)
-      certain taken false x e = refl
-
-      case : (taken : ℕ) (t : Bool) → eqb (heapSum P W) (heapSum P P) ≡ t
-          → cond t (cond (exact P) (unverified true) (judgedAt taken)) (unverified false) .listed ≡ matches P 0 W
-      case taken true q = certain taken (exact P) refl (eqb-true (heapSum P W) (heapSum P P) q)
-      case taken false q = sym (others-differ (eqb-false (heapSum P W) (heapSum P P) q))
+  pub hcam-judges : hcamJudged P W .listed ≡ matches P 0 W
+  unfolding hcamJudged verified
+  hcam-judges = case _ (occurs W lostHour || (candidate P W && not (exact P))) refl
+    where
+      case : (taken : ℕ) (t : Bool) → (occurs W lostHour || (candidate P W && not (exact P))) ≡ t
+          → cond {A = Judged} t (record { listed = matches P 0 W; verification = taken }) (unverified (candidate P W)) .listed ≡ matches P 0 W
+      case taken true q = refl
+      case taken false q = let parts = or-false (occurs W lostHour) (candidate P W && not (exact P)) q in unverified-right (parts .0) (parts .1)

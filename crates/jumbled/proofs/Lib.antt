@@ -18,3 +18,4 @@ pub mod Methods
 pub mod Positions
 pub mod Former
 pub mod Sheet
+pub mod Lost

@@ -1,4 +1,4 @@
--- The theorem of the methods: what is not refused by 1 to 5 lists exactly the matching positions (demand 2, on the definitions).
+-- The theorem of the methods: what the tests of open do not refuse lists exactly the matching positions (demand 2, on the definitions).
 use mathlib.Core.Path.{_≡_, refl}
 use mathlib.Core.List.{List, [], reverse}
 use Prim.Native.Nat.{ℕ, zero, suc, _≤_}
@@ -82,7 +82,7 @@ by-method P k (suc (suc (suc (suc (suc (suc zero)))))) T hP hT taken =
     rw (taken .no-tolerance refl) (backward-positions P 0 T hT (eblScan P) (ebl-sound P))
 by-method P k (suc (suc (suc (suc (suc (suc (suc n))))))) T hP hT taken = absurd (let most = taken .most in omega arith)
 
--- Whatever is not refused by 1 to 5: the positions of the method's steps are exactly the listed positions
+-- Whatever the tests of open do not refuse: the positions of the method's steps are exactly the listed positions
 pub methods-list : (P : List ℕ) (k method : ℕ) (T : List ℕ) → Bytes P → Bytes T → given (patternTests P k method) ≡ 0
     → steps P k method T .occurrences ≡ positions P k T
 methods-list P k method T hP hT accepted = by-method P k method T hP hT (admitted P k method accepted .taken)

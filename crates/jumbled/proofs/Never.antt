@@ -9,7 +9,7 @@ use lib.ListN.{length}
 use borrow.Author.Tests.{le-ltb}
 use Rattle.jumbled.specs.Match.{cc}
 use Rattle.jumbled.specs.Fields.{shared, fieldCount, noLayout, layoutOf, widthOf, bits}
-use Rattle.jumbled.specs.Refusals.{Test, test, given, isMethod, exactOnly, lengthTests, toleranceTests, knownTests, exactTests, widthTests, textTests, inputTests, placeTests, totalTests, tailTests, formTests, bufferTests, lineTests, methodTests, patternTests, sizeTests, wholeTests, sheetTests, searchTests, chunkTests, requestTests, programTests}
+use Rattle.jumbled.specs.Refusals.{Test, test, given, isMethod, exactOnly, lengthTests, lostTests, toleranceTests, knownTests, exactTests, widthTests, textTests, inputTests, placeTests, totalTests, tailTests, formTests, bufferTests, lineTests, methodTests, patternTests, sizeTests, wholeTests, sheetTests, searchTests, chunkTests, requestTests, programTests}
 use Rattle.jumbled.proofs.Sums.{sum-zeros}
 
 -- None of the tests with the number n applies
@@ -31,7 +31,7 @@ never-append none later = later
 never-append (next off more) later = next off (never-append more later)
 
 -- one test that has another number
-other : {n m : ℕ} {b : Bool} → (m ≡ n → ⊥) → Never n (test m b ∷ [])
+pub other : {n m : ℕ} {b : Bool} → (m ≡ n → ⊥) → Never n (test m b ∷ [])
 other differs = next (λ e. absurd (differs e)) none
 
 -- ---- 5: only the tests of fields have this number
@@ -39,6 +39,10 @@ other differs = next (λ e. absurd (differs e)) none
 pub length-not-5 : (m : ℕ) → Never 5 (lengthTests m)
 unfolding lengthTests
 length-not-5 m = other (λ e. omega arith)
+
+lost-not-5 : (P : List ℕ) → Never 5 (lostTests P)
+unfolding lostTests
+lost-not-5 P = other (λ e. omega arith)
 
 tolerance-not-5 : (m k : ℕ) → Never 5 (toleranceTests m k)
 unfolding toleranceTests
@@ -101,7 +105,8 @@ ebl-number P k = rw (le-ltb 64 (bits P noLayout) (no-more P)) (case (ltb 0 k))
 module _ (P : List ℕ) (k : ℕ) where
   pub pattern-not-5 : Never 5 (patternTests P k 6)
   unfolding patternTests
-  pattern-not-5 = never-append (length-not-5 (length P)) (never-append (tolerance-not-5 (length P) k) (method-not-5 P k))
+  pattern-not-5 =
+      never-append (length-not-5 (length P)) (never-append (lost-not-5 P) (never-append (tolerance-not-5 (length P) k) (method-not-5 P k)))
 
   pub whole-not-5 : (bytes places : ℕ) → Never 5 (wholeTests P k 6 bytes places)
   unfolding wholeTests

@@ -1,19 +1,17 @@
 -- That `positions` are the window starts of matching windows, each of them and no other number, in ascending order; and how many inspections
 -- the forward methods make (document 01, "What a match is" and "The five methods", 1 and 5).
 use mathlib.Core.Path.{_≡_, refl, sym, ap, _∙_}
-use mathlib.Core.Bool.{Bool, true, false, cond, not, _&&_, false≢true}
+use mathlib.Core.Bool.{Bool, true, false, cond, false≢true}
 use mathlib.Core.List.{List, [], _∷_, List·Memᴰ, List·Memᴰ·head, List·Memᴰ·tail, List·Memᴰ·not-nil, List·Memᴰ·cases-cons}
 use mathlib.Core.Logic.{_↔_, ⊎-elim}
 use Prim.Native.Nat.{ℕ, zero, suc, _+_, _-_, _*_, _≤_, _<_}
 use native.Mathlib.Nat.{le-refl, le-trans, mul-suc}
 use native.Mathlib.Omega.{arith}
-use lib.Dec.{eqb}
 use lib.ListN.{length, getD, List·getD-eq-default}
 use borrow.Author.Tests.{leb-true, le-leb}
 use Rattle.jumbled.specs.Match.{excess, matches, window, starts, select, positions}
 use Rattle.jumbled.specs.Scan.{Result, nothing, Judged, unverified, backward, forward}
-use Rattle.jumbled.specs.Heap.{heapSum, exact}
-use Rattle.jumbled.specs.Steps.{countJudged, hcamJudged, verified, verifiedStarts, steps}
+use Rattle.jumbled.specs.Steps.{countJudged, candidate, verified, hcamJudged, verifiedStarts, steps}
 use Rattle.jumbled.proofs.Sums.{below-or-not}
 use Rattle.jumbled.proofs.Selections.{select-few, select-inside}
 
@@ -119,16 +117,13 @@ forward-inspections judged test c by-test m T s (suc left) cost =
     case false = omega arith
 
 -- what verifying a window of method 5 takes
-hcam-verification : (P W : List ℕ) → hcamJudged P W .verification ≡ cond (verified P W) (length P) 0
-unfolding hcamJudged verified
-hcam-verification P W = case (eqb (heapSum P W) (heapSum P P)) (exact P)
+pub hcam-verification : (P W : List ℕ) → hcamJudged P W .verification ≡ cond (verified P W) (length P) 0
+unfolding hcamJudged
+hcam-verification P W = case (verified P W)
   where
-    case : (candidate sure : Bool)
-        → cond candidate (cond sure (unverified true) (record { listed = matches P 0 W; verification = length P })) (unverified false) .verification
-        ≡ cond (candidate && not sure) (length P) 0
-    case true true = refl
-    case true false = refl
-    case false sure = refl
+    case : (t : Bool) → cond {A = Judged} t (record { listed = matches P 0 W; verification = length P }) (unverified (candidate P W)) .verification ≡ cond t (length P) 0
+    case true = refl
+    case false = refl
 
 all-starts : (P T : List ℕ) → length P ≤ length T → starts (length P) T ≡ suc (length T - length P)
 all-starts P T h = omega arith

@@ -1,6 +1,6 @@
 -- A scan whose test tells an excess over k is sound: what each of methods 2, 3 and 4 has to show is its test's exactness.
 use mathlib.Core.Path.{_≡_, refl, sym, ap, _∙_}
-use mathlib.Core.Bool.{Bool, true, false, cond}
+use mathlib.Core.Bool.{Bool, true, false, cond, false≢true}
 use mathlib.Core.List.{List, [], _∷_, _++_, append-assoc, append-nil, reverse, reverse-cons, reverse-reverse}
 use Prim.Native.Nat.{ℕ, _+_, _-_, _≤_, _<_}
 use native.Mathlib.Nat.{le-trans, le-refl}
@@ -121,6 +121,20 @@ scan-most stop m q R U groups (more {U = left} {groups = later} group small rest
         → cond t (stopped m (group ++ R)) (scan stop m (group ++ R) later) .inspections ≤ length (left ++ group) + length R
     case true h = omega (arith, length-append left group, length-append group R)
     case false h = omega (arith, length-append left group, length-append group R)
+
+-- and one that lists its window has taken every byte of it
+pub scan-whole : (stop : List ℕ → Bool) (m q : ℕ) (R U : List ℕ) (groups : List (List ℕ)) → Groups q U groups → scan stop m R groups .listed ≡ true
+    → scan stop m R groups .inspections ≡ length U + length R
+unfolding scan
+scan-whole stop m q R U groups none = λ listed. omega arith
+scan-whole stop m q R U groups (more {U = left} {groups = later} group small rest) =
+    case (stop (group ++ R)) (scan-whole stop m q (group ++ R) left later rest)
+  where
+    case : (t : Bool) → (scan stop m (group ++ R) later .listed ≡ true → scan stop m (group ++ R) later .inspections ≡ length left + length (group ++ R))
+        → cond t (stopped m (group ++ R)) (scan stop m (group ++ R) later) .listed ≡ true
+        → cond t (stopped m (group ++ R)) (scan stop m (group ++ R) later) .inspections ≡ length (left ++ group) + length R
+    case true h listed = absurd (false≢true listed)
+    case false h listed = omega (arith, h listed, length-append left group, length-append group R)
 
 -- ---- the two ways of cutting a window
 

@@ -4,11 +4,11 @@ use mathlib.Core.List.{List, [], _∷_, map}
 use Prim.Native.Nat.{ℕ}
 use Prim.Native.Char.{code}
 use Prim.Native.String as Text
-use Rattle.jumbled.specs.Match.{cc, occurs, sum, excess, matches, select, positions}
+use Rattle.jumbled.specs.Match.{cc, occurs, sum, evidence, beyond, excess, matches, select, positions}
 use Rattle.jumbled.specs.Scan.{Result, scan, singles, pairs, backward, forward}
 use Rattle.jumbled.specs.Fields.{first, lg, letterWidth, fieldOf, widthOf, startValue, valueOf, topSet, some, overflows, ownTopSet, errors}
 use Rattle.jumbled.specs.Heap.{rank, heapValue, heapSum, exact}
-use Rattle.jumbled.specs.Steps.{countJudged, bamScan, bam2Scan, abamScan, hcamJudged, lacks, eblScan, steps}
+use Rattle.jumbled.specs.Steps.{countJudged, bamScan, bam2Scan, abamScan, candidate, verified, hcamJudged, passes, lacks, eblScan, steps}
 
 -- A text's letters as their ASCII codes
 ascii : Text.String → List ℕ
@@ -50,7 +50,7 @@ Every [] = Unit {0}
 Every (r ∷ rs) = Right r × Every rs
 
 sheet : Every rows
-unfolding rows row ascii positions cc sum excess matches select scan singles pairs backward forward first lg letterWidth fieldOf widthOf startValue valueOf topSet some overflows ownTopSet errors occurs rank heapValue heapSum exact countJudged bamScan bam2Scan abamScan hcamJudged steps
+unfolding rows row ascii positions cc sum evidence beyond excess matches select scan singles pairs backward forward first lg letterWidth fieldOf widthOf startValue valueOf topSet some overflows ownTopSet errors occurs rank heapValue heapSum exact countJudged bamScan bam2Scan abamScan candidate verified hcamJudged steps
 sheet = ((refl, refl), ((refl, refl), ((refl, refl), ((refl, refl), ((refl, refl), ((refl, refl), ((refl, refl), ((refl, refl), tt))))))))
 
 -- ---- method 6 (document 02, T-04)
@@ -68,5 +68,26 @@ eblRows =
     ∷ []
 
 sheet-by-ebl : Every eblRows
-unfolding eblRows row ascii positions cc occurs sum excess matches select scan singles backward lacks eblScan steps
+unfolding eblRows row ascii positions cc occurs sum evidence beyond excess matches select scan singles backward passes lacks eblScan steps
 sheet-by-ebl = ((refl, refl), ((refl, refl), ((refl, refl), ((refl, refl), ((refl, refl), ((refl, refl), ((refl, refl), tt)))))))
+
+-- ---- lost hours (document 02, T-07)
+
+-- A lost hour in the middle, at either end, and all readings lost; a strange letter beside one; method 4 with the shared field's top bit set before
+-- one is read, and a second strange letter after it; a window that was verified for its lost hour, and one that holds none any more
+lostRows : List Row
+lostRows =
+    row "abc" 0 "a-c" (0 ∷ []) ((1, 3) ∷ (2, 3) ∷ (3, 3) ∷ (4, 3) ∷ (5, 6) ∷ (6, 6) ∷ [])
+    ∷ row "abc" 0 "-bc" (0 ∷ []) ((1, 3) ∷ (2, 3) ∷ (3, 3) ∷ (4, 3) ∷ (5, 6) ∷ (6, 6) ∷ [])
+    ∷ row "abc" 0 "---" (0 ∷ []) ((1, 3) ∷ (2, 3) ∷ (3, 3) ∷ (4, 3) ∷ (5, 6) ∷ (6, 6) ∷ [])
+    ∷ row "abc" 0 "x-b" [] ((1, 3) ∷ (2, 3) ∷ (3, 3) ∷ (4, 3) ∷ (5, 6) ∷ (6, 3) ∷ [])
+    ∷ row "abc" 0 "a-a" [] ((1, 3) ∷ (2, 3) ∷ (3, 3) ∷ (4, 3) ∷ (5, 6) ∷ (6, 6) ∷ [])
+    ∷ row "abcd" 1 "-xcd" (0 ∷ []) ((1, 4) ∷ (4, 4) ∷ [])
+    ∷ row "abcd" 1 "y-xcd" (1 ∷ []) ((1, 5) ∷ (4, 8) ∷ [])
+    ∷ row "ab" 0 "-ba" (0 ∷ 1 ∷ []) ((1, 3) ∷ (2, 4) ∷ (3, 4) ∷ (4, 4) ∷ (5, 5) ∷ (6, 8) ∷ [])
+    ∷ row "ab" 0 "-xb" [] ((1, 3) ∷ (2, 1) ∷ (3, 4) ∷ (4, 1) ∷ (5, 5) ∷ (6, 1) ∷ [])
+    ∷ []
+
+sheet-lost : Every lostRows
+unfolding lostRows row ascii positions cc sum evidence beyond excess matches select scan singles pairs backward forward first lg letterWidth fieldOf widthOf startValue valueOf topSet some overflows ownTopSet errors occurs rank heapValue heapSum exact countJudged bamScan bam2Scan abamScan candidate verified hcamJudged passes lacks eblScan steps
+sheet-lost = ((refl, refl), ((refl, refl), ((refl, refl), ((refl, refl), ((refl, refl), ((refl, refl), ((refl, refl), ((refl, refl), ((refl, refl), tt)))))))))

@@ -1,11 +1,11 @@
 -- The fields of methods 2, 3 and 4, each a number of its own: document 01, "The five methods", 2 to 4; the widths of 2 and 3 as document 02, T-03,
--- has them.
+-- has them, and what a lost hour does as T-07 has it.
 -- A letter c of P has the field c. All other letters share the field 256.
 use Prim.Native.Nat.{ℕ, zero, suc, _+_, _-_, _/_, _%_, _^_, max}
 use mathlib.Core.Bool.{Bool, false, cond, _||_}
 use mathlib.Core.List.{List, [], _∷_, map}
 use lib.Dec.{leb, ltb, eqb}
-use Rattle.jumbled.specs.Match.{bit, cc, sum}
+use Rattle.jumbled.specs.Match.{bit, cc, sum, lost, evidence}
 
 -- The first of e, e + 1, ... that passes the test, the test being tried `tries` times at most
 unfoldable pub first : (ℕ → Bool) → ℕ → ℕ → ℕ
@@ -71,9 +71,9 @@ bits P layout = sum fieldCount (widthOf P layout)
 unfoldable pub startValue : List ℕ → Layout → ℕ → ℕ
 startValue P layout f = 2 ^ (widthOf P layout f - 1) - cc P f - 1
 
--- The field f after the bytes R were read: each inspection of a byte added 1 to the byte's field
+-- The field f after the bytes R were read: each inspection of a byte added 1 to the byte's field, that of a lost hour nothing
 unfoldable pub valueOf : List ℕ → Layout → List ℕ → ℕ → ℕ
-valueOf P layout R f = startValue P layout f + cc (map (fieldOf P) R) f
+valueOf P layout R f = startValue P layout f + cc (map (fieldOf P) (evidence R)) f
 
 -- The top bit of a field of g bits that holds v is set
 unfoldable pub topSet : ℕ → ℕ → Bool
@@ -93,7 +93,7 @@ unfoldable pub ownTopSet : List ℕ → Layout → List ℕ → ℕ → Bool
 ownTopSet P layout R b = topSet (widthOf P layout (fieldOf P b)) (valueOf P layout R (fieldOf P b))
 
 -- The errors counted while the bytes R were read, from R's last byte to its first: one for each byte whose own top bit is set after the
--- inspection of it (method 4)
+-- inspection of it, and none for a lost hour, be that bit set or not (method 4)
 unfoldable pub errors : List ℕ → Layout → List ℕ → ℕ
 errors P layout [] = 0
-errors P layout (b ∷ R) = bit (ownTopSet P layout (b ∷ R) b) + errors P layout R
+errors P layout (b ∷ R) = cond (lost b) 0 (bit (ownTopSet P layout (b ∷ R) b)) + errors P layout R

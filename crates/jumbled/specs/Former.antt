@@ -9,7 +9,7 @@ use Rattle.jumbled.specs.Match.{starts}
 use Rattle.jumbled.specs.Fields.{lg, Layout, layoutOf}
 use Rattle.jumbled.specs.Scan.{Result, singles, pairs, backward}
 use Rattle.jumbled.specs.Steps.{packedScan, steps}
-use Rattle.jumbled.specs.Refusals.{Test, lengthTests, toleranceTests, knownTests, exactTests, fieldTests, tailTests, sizeTests}
+use Rattle.jumbled.specs.Refusals.{Test, lengthTests, lostTests, toleranceTests, knownTests, exactTests, fieldTests, tailTests, sizeTests}
 
 -- The field of a letter that P has v times had 2 bits more than lg(v); so many bits were shared
 abbrev pub formerLayout : (common : ℕ) → Layout
@@ -33,11 +33,11 @@ formerSteps P k method T =
 unfoldable pub formerMethodTests : List ℕ → ℕ → ℕ → List Test
 formerMethodTests P k method = knownTests method ++ (exactTests k method ++ fieldTests P (formerLayoutOf k method))
 
--- 1 to 5
+-- Those of open, with 13, which T-03 does not touch
 unfoldable pub formerPatternTests : List ℕ → ℕ → ℕ → List Test
-formerPatternTests P k method = lengthTests (length P) ++ (toleranceTests (length P) k ++ formerMethodTests P k method)
+formerPatternTests P k method = lengthTests (length P) ++ (lostTests P ++ (toleranceTests (length P) k ++ formerMethodTests P k method))
 
--- 1 to 7 of a whole search
+-- of a whole search
 unfoldable pub formerWholeTests : List ℕ → ℕ → ℕ → (bytes places : ℕ) → List Test
 formerWholeTests P k method bytes places = formerPatternTests P k method ++ sizeTests bytes places
 

@@ -1,7 +1,7 @@
--- What a match is: document 01, "What a match is"; document 000, section 1.
+-- What a match is: document 01, "What a match is", as document 02, T-07, amends it; document 000, section 1.
 -- A text, a pattern and a window are lists of bytes. Document 01 calls a byte a reading or a letter, and a text a record.
 use Prim.Native.Nat.{ℕ, zero, suc, _+_, _-_, _<_}
-use mathlib.Core.Bool.{Bool, cond, not}
+use mathlib.Core.Bool.{Bool, false, cond, not}
 use mathlib.Core.List.{List, [], _∷_}
 use lib.Dec.{leb, eqb}
 use lib.ListN.{length, getD, take, drop}
@@ -28,18 +28,30 @@ unfoldable pub sum : ℕ → (ℕ → ℕ) → ℕ
 sum zero f = 0
 sum (suc n) f = sum n f + f n
 
--- How often the pattern P allows the byte c: as often as P has it
-abbrev pub allows : List ℕ → ℕ → ℕ
-allows P c = cc P c
+-- The byte of an hour with no reading is `-` (document 02, T-07)
+abbrev pub lostHour : ℕ
+lostHour = 45
 
--- The bytes U use up what P allows of c: one c more is in excess
-unfoldable pub usedUp : List ℕ → List ℕ → ℕ → Bool
-usedUp P U c = leb (allows P c) (cc U c)
+abbrev pub lost : ℕ → Bool
+lost b = eqb lostHour b
 
--- The excess of the window W over the pattern P: the sum over all bytes c of max(cc(W, c) - cc(P, c), 0).
+-- The evidence of a text: its bytes, but for the lost hours (document 02, T-07)
+unfoldable pub evidence : List ℕ → List ℕ
+evidence [] = []
+evidence (b ∷ U) = cond (lost b) (evidence U) (b ∷ evidence U)
+
+-- What U has beyond a limit for each byte: the sum over all bytes c of max(cc(U, c) - limit(c), 0).
 -- A difference of naturals stops at 0, so it is that maximum.
+unfoldable pub beyond : (ℕ → ℕ) → List ℕ → ℕ
+beyond limit U = sum 256 (λ c. cc U c - limit c)
+
+-- The excess of the window W over the pattern P: what the window's evidence has beyond the pattern's own counts
 unfoldable pub excess : List ℕ → List ℕ → ℕ
-excess P W = sum 256 (λ c. cc W c - allows P c)
+excess P W = beyond (cc P) (evidence W)
+
+-- The bytes U use up what P allows of c: one c more is in excess. A lost hour never is.
+unfoldable pub usedUp : List ℕ → List ℕ → ℕ → Bool
+usedUp P U c = cond (lost c) false (leb (cc P c) (cc U c))
 
 -- W, of the pattern's length, is a k-approximate permutation of P
 unfoldable pub matches : List ℕ → ℕ → List ℕ → Bool

@@ -5,6 +5,7 @@ use mathlib.Core.Bool.{Bool, false, cond, not, _&&_, _||_}
 use mathlib.Core.List.{List, [], _∷_, _++_}
 use lib.Dec.{leb, ltb, eqb}
 use lib.ListN.{length, getD}
+use Rattle.jumbled.specs.Match.{occurs, lostHour}
 use Rattle.jumbled.specs.Fields.{Layout, layoutOf, bits}
 
 -- A row of the table: its number, and whether its condition holds
@@ -65,6 +66,10 @@ badSet lengths bytes =
 -- 12, of several patterns (document 02, T-01)
 unfoldable pub setTests : (lengths : List ℕ) (bytes : ℕ) → List Test
 setTests lengths bytes = test 12 (badSet lengths bytes) ∷ []
+
+-- 13, of the bytes of a pattern, or of several one after the other: one of them is a lost hour (document 02, T-07)
+unfoldable pub lostTests : List ℕ → List Test
+lostTests P = test 13 (occurs P lostHour) ∷ []
 
 -- 2, of k for a pattern of m bytes
 unfoldable pub toleranceTests : ℕ → ℕ → List Test
@@ -136,36 +141,37 @@ lineTests badLine = test 11 badLine ∷ []
 unfoldable pub methodTests : List ℕ → ℕ → ℕ → List Test
 methodTests P k method = knownTests method ++ (exactTests k method ++ widthTests P k method)
 
--- Open: 1 to 5
+-- Open: 1, 13, then 2 to 5
 unfoldable pub patternTests : List ℕ → ℕ → ℕ → List Test
-patternTests P k method = lengthTests (length P) ++ (toleranceTests (length P) k ++ methodTests P k method)
+patternTests P k method = lengthTests (length P) ++ (lostTests P ++ (toleranceTests (length P) k ++ methodTests P k method))
 
 -- 6 and 7
 unfoldable pub sizeTests : (bytes places : ℕ) → List Test
 sizeTests bytes places = textTests bytes ++ placeTests bytes places
 
--- Whole search: 1 to 7
+-- Whole search: those of open, then 6 and 7
 unfoldable pub wholeTests : List ℕ → ℕ → ℕ → (bytes places : ℕ) → List Test
 wholeTests P k method bytes places = patternTests P k method ++ sizeTests bytes places
 
--- A whole search and its sheet of so many bytes, for a buffer of so many places (document 02, T-02): 1 to 7, then 10
+-- A whole search and its sheet of so many bytes, for a buffer of so many places (document 02, T-02): those of whole search, then 10
 unfoldable pub sheetTests : List ℕ → ℕ → ℕ → (bytes places bufferPlaces bytesOnPaper : ℕ) → List Test
 sheetTests P k method bytes places bufferPlaces bytesOnPaper = wholeTests P k method bytes places ++ bufferTests bufferPlaces bytesOnPaper
 
--- Several patterns and k (document 02, T-01): 1 for every pattern, 12, 2
-unfoldable pub severalPatternTests : (lengths : List ℕ) (patternBytes k : ℕ) → List Test
-severalPatternTests lengths patternBytes k = eachLengthTests lengths ++ (setTests lengths patternBytes ++ toleranceTests (getD lengths 0 0) k)
+-- Several patterns of these lengths, one after the other, and k (document 02, T-01): 1 for every pattern, 12, 13 for every pattern, 2
+unfoldable pub severalPatternTests : (lengths patterns : List ℕ) (k : ℕ) → List Test
+severalPatternTests lengths patterns k =
+    eachLengthTests lengths ++ (setTests lengths (length patterns) ++ (lostTests patterns ++ toleranceTests (getD lengths 0 0) k))
 
 -- and a text for two lists: 6, 7
 unfoldable pub severalSizeTests : (bytes patterns positions numbers : ℕ) → List Test
 severalSizeTests bytes patterns positions numbers = textTests bytes ++ pairPlaceTests bytes patterns positions numbers
 
--- Several patterns in one pass (document 02, T-01): 1, 12, 2, 6, 7
-unfoldable pub severalTests : (lengths : List ℕ) (patternBytes k bytes positions numbers : ℕ) → List Test
-severalTests lengths patternBytes k bytes positions numbers =
-    severalPatternTests lengths patternBytes k ++ severalSizeTests bytes (length lengths) positions numbers
+-- Several patterns in one pass (document 02, T-01): 1, 12, 13, 2, 6, 7
+unfoldable pub severalTests : (lengths patterns : List ℕ) (k bytes positions numbers : ℕ) → List Test
+severalTests lengths patterns k bytes positions numbers =
+    severalPatternTests lengths patterns k ++ severalSizeTests bytes (length lengths) positions numbers
 
--- Of a search's parts, with a tail of t bytes after n: 1 to 5, then 9 for the tail
+-- Of a search's parts, with a tail of t bytes after n: those of open, then 9 for the tail
 unfoldable pub searchTests : List ℕ → ℕ → ℕ → (n t : ℕ) → List Test
 searchTests P k method n t = patternTests P k method ++ tailTests (length P) n t
 
@@ -193,6 +199,6 @@ loadTests badForm held = formTests badForm ++ held
 unfoldable pub requestTests : (bytes : ℕ) (badLine : Bool) → List Test
 requestTests bytes badLine = inputTests bytes ++ lineTests badLine
 
--- The program: then 1 to 5
+-- The program: then those of open
 unfoldable pub programTests : (bytes : ℕ) (badLine : Bool) → List ℕ → ℕ → ℕ → List Test
 programTests bytes badLine P k method = requestTests bytes badLine ++ patternTests P k method

@@ -1,11 +1,12 @@
--- The steps of the six methods: document 01, "The five methods", 1 to 5, and document 02, T-04, for 6. The methods have the papers' names:
+-- The steps of the six methods: document 01, "The five methods", 1 to 5, and document 02, T-04, for 6 and T-07 for lost hours. The methods have
+-- the papers' names:
 -- 1 count, 2 bam (packed backward), 3 bam2 (pairs backward), 4 abam (approximate backward), 5 hcam (heap values), 6 ebl (without counters).
 use Prim.Native.Nat.{ℕ, _+_}
-use mathlib.Core.Bool.{Bool, true, false, cond, not, _&&_}
+use mathlib.Core.Bool.{Bool, false, cond, not, _&&_, _||_}
 use mathlib.Core.List.{List, [], _∷_, reverse}
 use lib.Dec.{ltb, eqb}
 use lib.ListN.{length}
-use Rattle.jumbled.specs.Match.{occurs, matches, window, starts, select}
+use Rattle.jumbled.specs.Match.{occurs, lostHour, lost, matches, window, starts, select}
 use Rattle.jumbled.specs.Scan.{Result, nothing, Scanned, scan, singles, pairs, backward, Judged, unverified, forward}
 use Rattle.jumbled.specs.Fields.{Layout, bamLayout, bam2Layout, abamLayout, overflows, errors}
 use Rattle.jumbled.specs.Heap.{heapSum, exact}
@@ -30,24 +31,30 @@ bam2Scan P W = packedScan bam2Layout pairs P W
 unfoldable pub abamScan : List ℕ → ℕ → List ℕ → Scanned
 abamScan P k W = scan (λ R. ltb k (errors P (abamLayout k) R)) (length P) [] (singles (reverse W))
 
--- 5: a candidate's sum equals P's; it matches where the values are exact, and is verified by counting otherwise, m inspections more
-unfoldable pub hcamJudged : List ℕ → List ℕ → Judged
-hcamJudged P W =
-    cond (eqb (heapSum P W) (heapSum P P))
-    (cond (exact P) (unverified true) (record { listed = matches P 0 W; verification = length P })) (unverified false)
+-- 5: a window is a candidate where its sum equals P's
+unfoldable pub candidate : List ℕ → List ℕ → Bool
+candidate P W = eqb (heapSum P W) (heapSum P P)
 
--- The windows that 5 verifies: the candidates, where the values are not exact
+-- The windows that 5 verifies: those that hold a lost hour, and the candidates where the values are not exact
 unfoldable pub verified : List ℕ → List ℕ → Bool
-verified P W = eqb (heapSum P W) (heapSum P P) && not (exact P)
+verified P W = occurs W lostHour || (candidate P W && not (exact P))
 
--- and where they start in a text
+-- A window is verified by counting, m inspections more; one that is not is listed where it is a candidate
+unfoldable pub hcamJudged : List ℕ → List ℕ → Judged
+hcamJudged P W = cond (verified P W) (record { listed = matches P 0 W; verification = length P }) (unverified (candidate P W))
+
+-- Where the verified windows start in a text
 unfoldable pub verifiedStarts : List ℕ → List ℕ → List ℕ
 verifiedStarts P T = select (λ s. verified P (window (length P) T s)) 0 (starts (length P) T)
 
--- 6 stops at a byte that P lacks: the byte last read, the first of the part R
+-- 6 reads on past a byte that P has, and past a lost hour as if P had it
+unfoldable pub passes : List ℕ → ℕ → Bool
+passes P b = lost b || occurs P b
+
+-- It stops at any other, a byte that P lacks: the byte last read, the first of the part R
 unfoldable pub lacks : List ℕ → List ℕ → Bool
 lacks P [] = false
-lacks P (b ∷ R) = not (occurs P b)
+lacks P (b ∷ R) = not (passes P b)
 
 -- The scan w has read all of the window W: it is verified by counting, m inspections more, and the search goes on at s + 1 whether it is listed
 -- or not

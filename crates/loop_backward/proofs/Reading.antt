@@ -9,12 +9,12 @@ use lib.Seq.{take-suc, drop-cons, drop-drop, drop-length, take-length}
 use borrow.Author.Tests.{ltb-false}
 use Rattle.jumbled.specs.Match.{Bytes, excess}
 use Rattle.jumbled.specs.Scan.{Scanned, completed, stopped, scan, singles, pairs}
-use Rattle.jumbled.specs.Fields.{Layout, fieldCount, fieldOf, widthOf, valueOf}
+use Rattle.jumbled.specs.Fields.{Layout, fieldCount, widthOf, valueOf}
 use Rattle.jumbled.proofs.Counts.{bytes-take, bytes-drop, excess-nil, excess-append}
 use Rattle.jumbled.proofs.Scans.{Exact}
 use Rattle.jumbled.proofs.Overflow.{Roomy, no-carry}
 use Rattle.table_parikh.proofs.Tables.{getD-tabulate}
-use Rattle.table_packed.specs.Word.{unitOf, Packed}
+use Rattle.table_packed.specs.Word.{added, Packed}
 use Rattle.table_packed.specs.declared.Word.{Word}
 use Rattle.table_packed.proofs.Packs.{ValuesFit}
 use Rattle.table_packed.proofs.Values.{wordOf, word-nil, word-cons}
@@ -68,7 +68,7 @@ module _ (P : List ℕ) (layout : Layout) where
   pub unit-added : {packing : Word} {units : List ℕ} → Packed P layout packing units → (W : List ℕ) → Bytes W → (d word : ℕ) → d < length W → word ≡ wordOf P layout (drop (suc d) W)
       → word + getD units (getD W d 0) 0 ≡ wordOf P layout (drop d W)
   unit-added {units = units} packed W hW d word h e =
-      rw (e, packed .units-are, getD-tabulate 256 (λ c. unitOf P layout (fieldOf P c)) (getD W d 0) (hW .below d), drop-cons W d 0 h)
+      rw (e, packed .units-are, getD-tabulate 256 (added P layout) (getD W d 0) (hW .below d), drop-cons W d 0 h)
       (word-cons P layout (getD W d 0) (drop (suc d) W))
 
 -- ---- the scan

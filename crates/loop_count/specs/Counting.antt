@@ -4,7 +4,7 @@ use mathlib.Core.List.{List}
 use Prim.Native.Nat.{ℕ}
 use Rattle.jumbled.specs.Match.{windowPrefix}
 use Rattle.jumbled.specs.Steps.{countJudged}
-use Rattle.table_parikh.specs.Table.{parikh}
+use Rattle.table_parikh.specs.Table.{allowances}
 use Rattle.lent.specs.declared.Range.{Range}
 use Rattle.lent.specs.Loops.{Fitting}
 use Rattle.loop_forward.specs.Windows.{Ended}
@@ -12,10 +12,10 @@ use Rattle.loop_forward.specs.declared.Sliding.{Sliding}
 use Rattle.loop_forward.specs.Counting.{Counting}
 use Rattle.loop_count.specs.declared.Counted.{Counted}
 
--- For windows of m bytes and some pattern, whose counts are given: the state is that of the first window but its last byte
+-- For windows of m bytes and some pattern, whose allowances are given: the state is that of the first window but its last byte
 pub record CountSearchable (m : ℕ) (allowed T : List ℕ) (sliding : Sliding) (range : Range) : Type 0 where
   pub of : List ℕ
-  pub pattern-counts : allowed ≡ parikh of
+  pub allows : allowed ≡ allowances of
   pub fitting : Fitting T m range
   pub state : Counting of (windowPrefix m T (range .first)) (sliding .counts) (sliding .excess)
 

@@ -1,13 +1,13 @@
--- A window while method 6 reads it: every byte so far occurs in the pattern. It ends at one that does not, or is verified.
+-- A window while method 6 reads it: every byte so far occurs in the pattern, or is a lost hour. It ends at one that is neither, or is verified.
 use mathlib.Core.Path.{_≡_, refl, sym, ap, _∙_}
 use mathlib.Core.Bool.{Bool, true, false}
 use mathlib.Core.List.{List, _∷_, _++_}
 use Prim.Native.Nat.{ℕ, _+_, _-_, _≤_, _<_}
 use native.Mathlib.Omega.{arith}
 use lib.ListN.{length, getD, set, take, length-drop, take-append-drop}
-use Rattle.jumbled.specs.Match.{occurs, matches, window}
+use Rattle.jumbled.specs.Match.{matches, window}
 use Rattle.jumbled.specs.Scan.{stopped}
-use Rattle.jumbled.specs.Steps.{eblScan}
+use Rattle.jumbled.specs.Steps.{passes, eblScan}
 use Rattle.jumbled.proofs.Windows.{window-whole}
 use Rattle.jumbled.proofs.Ebl.{Occur, none, next, ebl-stops, ebl-verifies}
 use Rattle.table_parikh.specs.Letters.{Occurring}
@@ -17,7 +17,7 @@ use Rattle.loop_backward.proofs.Leftward.{readFrom, read-none, read-more}
 use Rattle.loop_backward.proofs.Windows.{Going, going-match, going-stop}
 
 -- what the table says of a byte
-pub told : {P : List ℕ} {table : List Bool} → Occurring P table → {b : ℕ} → b < 256 → {t : Bool} → getD table b false ≡ t → occurs P b ≡ t
+pub told : {P : List ℕ} {table : List Bool} → Occurring P table → {b : ℕ} → b < 256 → {t : Bool} → getD table b false ≡ t → passes P b ≡ t
 told o {b} byte e = sym (o .tells b byte) ∙ e
 
 -- The windows before s₀ are done, and the one at s₀ is to be scanned, for which the list has a place
@@ -55,8 +55,8 @@ module _ {P T : List ℕ} {range : Range} {before : List ℕ} {s₀ at inspectio
       read : readFrom (length P) T s₀ (p - 1) ≡ getD T (p - 1) 0 ∷ readFrom (length P) T s₀ p
       read = read-more (length P) T s₀ window-upto p (omega (arith, inner .same)) (inner .upto)
 
-      -- and occurs in the pattern
-      pub inner-on : occurs P (getD T (p - 1) 0) ≡ true → Inner P T s₀ inspections₀ s (inspections + 1) (p - 1)
+      -- and is read on past
+      pub inner-on : passes P (getD T (p - 1) 0) ≡ true → Inner P T s₀ inspections₀ s (inspections + 1) (p - 1)
       inner-on there =
           record {
             same = inner .same;
@@ -66,8 +66,8 @@ module _ {P T : List ℕ} {range : Range} {before : List ℕ} {s₀ at inspectio
             inspected = omega (arith, inner .inspected);
           }
 
-      -- or does not: the search goes on after it
-      pub inner-stop : occurs P (getD T (p - 1) 0) ≡ false → Going (eblScan P) (length P) T range before (p - 1 + 1) at (inspections + 1) after
+      -- or is not: the search goes on after it
+      pub inner-stop : passes P (getD T (p - 1) 0) ≡ false → Going (eblScan P) (length P) T range before (p - 1 + 1) at (inspections + 1) after
       inner-stop lacking =
           let next-start : s₀ + (p - 1 - s₀) + 1 ≡ p - 1 + 1 = omega (arith, inner .same) in
           let counted : inspections₀ + (length P - (p - 1 - s₀)) ≡ inspections + 1 = omega (arith, inner .inspected, inner .same, inner .upto) in

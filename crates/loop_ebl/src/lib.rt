@@ -6,8 +6,8 @@ use loop_backward::Reached;
 use loop_backward::position;
 
 // Method 6, without counters. A window is read leftwards up to a byte that the pattern lacks, at p. No window that holds that byte matches, so
-// the search goes on at p + 1. A window of the pattern's bytes alone may have some of them too often, so it is verified: its bytes are
-// taken once more, and counted.
+// the search goes on at p + 1. A window of the pattern's bytes alone, lost hours taken for some of them (document 02, T-07), may have one too often,
+// so it is verified: its bytes are taken once more, and counted.
 pub fn ebl(
     m: usize,
     allowed: &[u8; 256],

@@ -10,10 +10,11 @@ use mir.Val.{boolByte}
 use borrow.Author.Tests.{eq-eqb, eqb-true}
 use Rattle.jumbled.specs.Match.{Bytes, bit, cc, usedUp, excess}
 use Rattle.jumbled.proofs.Counts.{cc-cons, cc-length, excess-nil, excess-cons, excess-snoc, excess-length}
-use Rattle.table_parikh.specs.Table.{parikh}
+use Rattle.table_parikh.specs.Table.{parikh, allowances}
 use Rattle.table_parikh.proofs.Tables.{tabulate-ext, tabulate-set}
 use Rattle.table_parikh.proofs.Parikh.{getD-parikh, parikh-nil, parikh-snoc}
 use Rattle.table_parikh.proofs.Excess.{spent}
+use Rattle.table_parikh.proofs.Lost.{byte-bit, byte-le}
 use Rattle.loop_forward.specs.Counting.{Counting}
 
 -- the first byte leaves
@@ -33,29 +34,20 @@ parikh-less U b h =
 pub counting-none : (P : List ℕ) → Counting P [] (replicate 256 0) 0
 counting-none P = record { counters = parikh-nil; exceeding = sym (excess-nil P) }
 
--- a truth value as a number
-byte-bit : (t : Bool) → boolByte t ≡ bit t
-byte-bit true = refl
-byte-bit false = refl
-
-byte-le : (t : Bool) → boolByte t ≤ 1
-byte-le true = omega arith
-byte-le false = omega arith
-
--- what the code counts of a byte, by the counters of the pattern and of the bytes U
-spent-bit : (P U : List ℕ) {allowed counts : List ℕ} {b : ℕ} → allowed ≡ parikh P → counts ≡ parikh U → b < 256
+-- what the code counts of a byte, by the allowances of the pattern and the counters of the bytes U
+spent-bit : (P U : List ℕ) {allowed counts : List ℕ} {b : ℕ} → allowed ≡ allowances P → counts ≡ parikh U → length U < 255 → b < 256
     → boolByte (leb (getD allowed b 0) (getD counts b 0)) ≡ bit (usedUp P U b)
-spent-bit P U known counted byte = ap boolByte (spent P U known counted byte) ∙ byte-bit (usedUp P U _)
+spent-bit P U known counted few byte = ap boolByte (spent P U known counted few byte) ∙ byte-bit (usedUp P U _)
 
 -- ---- a byte enters
 
 module _ {P U counts : List ℕ} {windowExcess : ℕ} (state : Counting P U counts windowExcess) where
-  pub counting-more : {allowed : List ℕ} {b : ℕ} → allowed ≡ parikh P → b < 256
+  pub counting-more : {allowed : List ℕ} {b : ℕ} → allowed ≡ allowances P → length U < 255 → b < 256
       → Counting P (U ++ (b ∷ [])) (set counts b (getD counts b 0 + 1)) (windowExcess + boolByte (leb (getD allowed b 0) (getD counts b 0)))
-  counting-more {allowed} {b} known byte =
+  counting-more {allowed} {b} known few byte =
       record {
         counters = rw (state .counters) (parikh-snoc U b byte);
-        exceeding = rw (spent-bit P U known (state .counters) byte, state .exceeding) (sym (excess-snoc P U b byte));
+        exceeding = rw (spent-bit P U known (state .counters) few byte, state .exceeding) (sym (excess-snoc P U b byte));
       }
 
   -- there is room for it
@@ -71,19 +63,17 @@ module _ {P U counts : List ℕ} {windowExcess b : ℕ} (state : Counting P (b �
   counters-less : set counts b (getD counts b 0 - 1) ≡ parikh U
   counters-less = rw (state .counters) (parikh-less U b byte)
 
-  excess-less : {allowed : List ℕ} → allowed ≡ parikh P
-      → windowExcess ≡ excess P U + boolByte (leb (getD allowed b 0) (getD (set counts b (getD counts b 0 - 1)) b 0))
-  excess-less known = rw (spent-bit P U known counters-less byte) (state .exceeding ∙ excess-cons P b U byte)
-
-  pub counting-less : {allowed : List ℕ} → allowed ≡ parikh P
-      → Counting P U (set counts b (getD counts b 0 - 1))
-      (windowExcess - boolByte (leb (getD allowed b 0) (getD (set counts b (getD counts b 0 - 1)) b 0)))
-  counting-less known = record { counters = counters-less; exceeding = omega (arith, excess-less known) }
-
   -- what is taken off was there
   pub counter-there : 1 ≤ getD counts b 0
   counter-there = rw (state .counters, getD-parikh (b ∷ U) b byte, cc-cons b U b, eq-eqb b b refl) (omega arith)
 
-  pub excess-there : {allowed : List ℕ} → allowed ≡ parikh P
-      → boolByte (leb (getD allowed b 0) (getD (set counts b (getD counts b 0 - 1)) b 0)) ≤ windowExcess
-  excess-there known = omega (arith, excess-less known)
+  module _ {allowed : List ℕ} (known : allowed ≡ allowances P) (few : length U < 255) where
+    excess-less : windowExcess ≡ excess P U + boolByte (leb (getD allowed b 0) (getD (set counts b (getD counts b 0 - 1)) b 0))
+    excess-less = rw (spent-bit P U known counters-less few byte) (state .exceeding ∙ excess-cons P b U byte)
+
+    pub counting-less : Counting P U (set counts b (getD counts b 0 - 1))
+        (windowExcess - boolByte (leb (getD allowed b 0) (getD (set counts b (getD counts b 0 - 1)) b 0)))
+    counting-less = record { counters = counters-less; exceeding = omega (arith, excess-less) }
+
+    pub excess-there : boolByte (leb (getD allowed b 0) (getD (set counts b (getD counts b 0 - 1)) b 0)) ≤ windowExcess
+    excess-there = omega (arith, excess-less)

@@ -4,7 +4,7 @@ use mathlib.Core.List.{List}
 use Prim.Native.Nat.{ℕ, _-_, _≤_}
 use lib.ListN.{length}
 use Rattle.jumbled.specs.Match.{excess, windowPrefix}
-use Rattle.table_parikh.specs.Table.{parikh}
+use Rattle.table_parikh.specs.Table.{parikh, allowances}
 use Rattle.loop_forward.specs.declared.CountStart.{CountStart}
 
 -- The counters and the excess are those of the bytes U, for the pattern P
@@ -14,10 +14,10 @@ pub record Counting (P U counts : List ℕ) (windowExcess : ℕ) : Type 0 where
 
 -- ---- the bytes before the first window's last
 
--- For windows of m bytes and some pattern, whose counts are given
+-- For windows of m bytes and some pattern, whose allowances are given
 pub record CountStartable (m : ℕ) (allowed T : List ℕ) : Type 0 where
   pub of : List ℕ
-  pub pattern-counts : allowed ≡ parikh of
+  pub allows : allowed ≡ allowances of
   pub some : 1 ≤ m
   pub short : m ≤ 64
   pub enough : m - 1 ≤ length T

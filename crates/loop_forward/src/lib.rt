@@ -18,12 +18,13 @@ pub struct CountStart {
     pub inspections: usize,
 }
 
-// The sum of some bytes' heap values.
+// The sum of some bytes' heap values, and how many of them are lost hours (document 02, T-07).
 pub struct Summed {
     pub sum: u64,
+    pub lost: usize,
 }
 
-// The sum before a text's first window, and the inspections that it took.
+// Both before a text's first window, and the inspections that it took.
 pub struct HcamStart {
     pub summed: Summed,
     pub inspections: usize,
@@ -60,6 +61,7 @@ pub fn hcam_start(m: usize, values: &[u64; 256], text: &[u8]) -> HcamStart
     HcamStart {
         summed: Summed {
             sum: table_heap::sum_of(values, entering),
+            lost: table_parikh::lost_hours(entering),
         },
         inspections: entering.len(),
     }

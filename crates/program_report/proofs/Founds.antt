@@ -34,7 +34,7 @@ whole-given P k method T list fits places =
     given-first (patternTests P k method) (sizeTests (length T) (length list)) (pattern-numbered P k method)
     (λ e. size-fits (length T) (length list) (omega arith) (omega arith))
 
--- a refusal is one of 1 to 5
+-- a refusal is one of open's
 pub refused-text : {P : List ℕ} {k method : ℕ} {T list after : List ℕ} {refusal : Refusal} → Whole P k method T list after (Refused refusal)
     → length T ≤ 16384 → length list ≡ 16384 → answerText P k method T ≡ refusalText (numberOf refusal)
 unfolding answerText

@@ -12,13 +12,13 @@ use Rattle.program_lines.specs.Lines.{outputText, refusalText}
 
 -- ---- when the program says no: document 01, "When a call says no"
 
--- The number of the refusal, 0 where nothing is refused: 6 before 11, then 1 to 5
+-- The number of the refusal, 0 where nothing is refused: 6 before 11, then those of open
 unfoldable pub requestRefusal : List ℕ → ℕ
 requestRefusal input =
     given
     (programTests (length input) (badLine input) (requestPattern input) (requestTolerance input) (requestMethod input))
 
--- What is printed for a request with a good first line: 1 to 5, or what was found
+-- What is printed for a request with a good first line: a refusal of open's tests, or what was found
 unfoldable pub answerText : List ℕ → ℕ → ℕ → List ℕ → List ℕ
 answerText P k method T =
     cond (eqb (given (patternTests P k method)) 0)

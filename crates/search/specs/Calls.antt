@@ -21,7 +21,7 @@ use Rattle.search.specs.declared.FeedResult.{FeedResult}
 use Rattle.search.specs.declared.SaveResult.{SaveResult}
 use Rattle.search.specs.Searches.{patternOf, tailOf, partsOfSearch, stored, blankSearch}
 
--- The tests of a search handed in: 1 to 5, and 9 for a tail of another length than n and m say. 1 comes first of the length that it says: no
+-- The tests of a search handed in: those of open, and 9 for a tail of another length than n and m say. 1 comes first of the length that it says: no
 -- pattern over 64 is stored.
 unfoldable pub handedTests : Search → List Test
 handedTests s =
@@ -125,7 +125,7 @@ pub record Saves (s : Search) (before after : List ℕ) (r : SaveResult) : Type 
 
 -- ---- load
 
--- The tests of a search's parts: 1 to 5, then 9 for the tail
+-- The tests of a search's parts: those of open, then 9 for the tail
 unfoldable pub partsTests : Parts → List Test
 partsTests parts = searchTests (parts .pattern) (parts .k) (parts .method) (parts .total) (length (parts .tail))
 

@@ -62,7 +62,7 @@ impl Search {
         tail_len: 0,
     };
 
-    // The search with these parts, if they pass the tests of a search: 1 to 5, then 9.
+    // The search with these parts, if they pass the tests of a search: those of open, then 9.
     fn with_parts(pattern: &[u8], k: u8, method: u8, total: u32, tail: &[u8]) -> SearchResult
         ensures { λ r. ⌜ ResultWith (partsWith (now (pattern .entry)) k method total (now (tail .entry))) r ⌝ }
     {
@@ -117,7 +117,7 @@ impl Search {
         )
     }
 
-    // The tests of a search handed in, which may have been filled in by hand: 1 to 5, then 9.
+    // The tests of a search handed in, which may have been filled in by hand: those of open, then 9.
     fn checked(self) -> AdmittedPattern
         ensures { λ r. ⌜ Admits (patternOf self) (handedNumber self) r ⌝ }
     {

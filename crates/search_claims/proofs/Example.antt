@@ -6,11 +6,11 @@ use mathlib.Core.Logic.{inl, inr}
 use Prim.Native.Nat.{ℕ}
 use native.Mathlib.Omega.{arith}
 use lib.ListN.{drop, replicate}
-use Rattle.jumbled.specs.Match.{cc, sum, excess, matches, select, positions}
+use Rattle.jumbled.specs.Match.{cc, occurs, sum, evidence, beyond, excess, matches, select, positions}
 use Rattle.jumbled.specs.Scan.{scan, singles, backward}
 use Rattle.jumbled.specs.Fields.{first, letterWidth, fieldOf, layoutOf, widthOf, bits, startValue, valueOf, topSet, some, overflows}
 use Rattle.jumbled.specs.Steps.{bamScan, steps}
-use Rattle.jumbled.specs.Refusals.{given, isMethod, exactOnly, lengthTests, toleranceTests, knownTests, exactTests, widthTests, textTests, placeTests, totalTests, tailTests, formTests, bufferTests, methodTests, patternTests, sizeTests, searchTests, chunkTests, feedTests, setMethodTests, saveTests, loadTests}
+use Rattle.jumbled.specs.Refusals.{given, isMethod, exactOnly, lengthTests, lostTests, toleranceTests, knownTests, exactTests, widthTests, textTests, placeTests, totalTests, tailTests, formTests, bufferTests, methodTests, patternTests, sizeTests, searchTests, chunkTests, feedTests, setMethodTests, saveTests, loadTests}
 use Rattle.lent.specs.Placed.{placed, shifted}
 use Rattle.image_form.specs.Image.{partsWith, lowFirst, contents, image}
 use Rattle.image_form.specs.Decode.{fromLowFirst, kindAt, lengthOf, endOf, bodyOf, kindsRight, badForm}
@@ -77,7 +77,7 @@ record Calls : Type 0 where
   load-b : LoadsAs (imageAt 2 98) (searchAt 2 b)
 
 calls : Calls
-unfolding given isMethod exactOnly lengthTests toleranceTests knownTests exactTests widthTests textTests placeTests totalTests tailTests formTests bufferTests methodTests patternTests sizeTests searchTests chunkTests feedTests setMethodTests saveTests loadTests cc sum excess matches select positions scan singles backward first letterWidth fieldOf layoutOf widthOf bits startValue valueOf topSet some overflows bamScan steps placed shifted lowFirst contents image fromLowFirst kindAt lengthOf endOf bodyOf kindsRight badForm handedTests handedNumber openNumber feedNumber setMethodNumber saveNumber partsTests loadNumber
+unfolding occurs given isMethod exactOnly lengthTests lostTests toleranceTests knownTests exactTests widthTests textTests placeTests totalTests tailTests formTests bufferTests methodTests patternTests sizeTests searchTests chunkTests feedTests setMethodTests saveTests loadTests cc sum evidence beyond excess matches select positions scan singles backward first letterWidth fieldOf layoutOf widthOf bits startValue valueOf topSet some overflows bamScan steps placed shifted lowFirst contents image fromLowFirst kindAt lengthOf endOf bodyOf kindsRight badForm handedTests handedNumber openNumber feedNumber setMethodNumber saveNumber partsTests loadNumber
 calls =
     record {
       fresh-search = record { number = refl; search = refl };
@@ -136,7 +136,7 @@ pub table-ledgers :
     ∷ blank
     ∷ ledgerOf a []
     ∷ []
-unfolding history afterEvent reportOf select matches excess sum cc
+unfolding history afterEvent reportOf select matches evidence beyond excess sum cc
 table-ledgers = refl
 
 -- ---- equal images of different texts: `ab` and `bb` leave the same total and the same tail
@@ -171,5 +171,5 @@ first-meant = either-copy 1 (older (latest refl))
 pub copies-differ :
     map (λ which. history ab 0 2 (loaded (imageAt 2 98) which accepted ∷ twiceSaved) .current) (0 ∷ 1 ∷ [])
     ≡ ledgerOf bb [] ∷ ledgerOf ab (0 ∷ []) ∷ []
-unfolding history afterEvent reportOf select matches excess sum cc
+unfolding history afterEvent reportOf select matches evidence beyond excess sum cc
 copies-differ = refl

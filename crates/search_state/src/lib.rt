@@ -55,7 +55,7 @@ pub fn tail_length(m: usize, total: usize) -> usize
     lent::least(total, m - 1)
 }
 
-// The tests of a search's parts, with a tail of so many bytes: 1 to 5, then 9.
+// The tests of a search's parts, with a tail of so many bytes: those of open, then 9.
 pub fn admit_parts(pattern: &[u8], k: u8, method: u8, total: u32, tail: usize) -> AdmittedPattern
     ensures { λ r. ⌜ Admits (now (pattern .entry)) (given (searchTests (now (pattern .entry)) k method total tail)) r ⌝ }
 {

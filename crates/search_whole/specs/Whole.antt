@@ -1,4 +1,4 @@
--- Whole search: document 01, "A search and its calls", and "When a call says no": 1 to 7.
+-- Whole search: document 01, "A search and its calls", and "When a call says no", 1 to 7; document 02, T-07, for 13.
 use mathlib.Core.Path.{_≡_}
 use mathlib.Core.List.{List}
 use Prim.Native.Nat.{ℕ}

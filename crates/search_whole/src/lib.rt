@@ -13,7 +13,7 @@ use lent::SearchCounts;
 // The longest text.
 pub const LONGEST_TEXT: usize = 65536;
 
-// Of a pattern, a tolerance, a method, and a text and a list of some lengths: 1 to 7, the first that applies.
+// Of a pattern, a tolerance, a method, and a text and a list of some lengths: those of open, 6, 7, the first that applies.
 pub fn admit(pattern: &[u8], k: u8, method: u8, bytes: usize, places: usize) -> AdmittedPattern
     ensures { λ r. ⌜ Admits (now (pattern .entry)) (given (wholeTests (now (pattern .entry)) k method bytes places)) r ⌝ }
 {

@@ -6,7 +6,7 @@ use native.Mathlib.Nat.{zero-add}
 use native.Mathlib.Omega.{arith}
 use lib.ListN.{length, getD}
 use Rattle.jumbled.specs.Match.{Bytes}
-use Rattle.jumbled.specs.Refusals.{given, eachLengthTests, setTests, toleranceTests, textTests, pairPlaceTests, severalPatternTests, severalSizeTests, severalTests}
+use Rattle.jumbled.specs.Refusals.{given, eachLengthTests, setTests, lostTests, toleranceTests, textTests, pairPlaceTests, severalPatternTests, severalSizeTests, severalTests}
 use Rattle.jumbled.proofs.Admission.{given-append, given-among}
 use Rattle.lent.specs.Placed.{placed}
 use Rattle.lent.specs.declared.SearchCounts.{SearchCounts}
@@ -25,7 +25,7 @@ use Rattle.several_pass.specs.Passing.{PassedOver}
 use Rattle.several.specs.Whole.{severalNumber, WholeSeveral}
 
 -- the patterns are searched together
-pub taken-together : (bytes lengths : List ℕ) (k : ℕ) → SeveralTaken lengths (length bytes) k → Together (patternsOf lengths bytes) (getD lengths 0 0)
+pub taken-together : (bytes lengths : List ℕ) (k : ℕ) → SeveralTaken lengths bytes k → Together (patternsOf lengths bytes) (getD lengths 0 0)
 taken-together bytes lengths k taken =
     let set = taken .set in
     handed.together (getD lengths 0 0) lengths bytes (set .some) (set .short) (set .some-pattern) (set .alike) (set .all)
@@ -43,20 +43,20 @@ module _ (bytes lengths : List ℕ) (k : ℕ) (T positions numbers : List ℕ) w
   -- the tests of the patterns and of k, then 6 and 7
   several-number :
       number
-      ≡ unlessRefused (given (severalPatternTests lengths (length bytes) k)) (given (severalSizeTests (length T) (length lengths) (length positions) (length numbers)))
-      (given (severalPatternTests lengths (length bytes) k))
+      ≡ unlessRefused (given (severalPatternTests lengths bytes k)) (given (severalSizeTests (length T) (length lengths) (length positions) (length numbers)))
+      (given (severalPatternTests lengths bytes k))
   unfolding severalNumber severalTests
-  several-number = given-append (severalPatternTests lengths (length bytes) k) _ (several-pattern-numbered lengths (length bytes) k)
+  several-number = given-append (severalPatternTests lengths bytes k) _ (several-pattern-numbered lengths bytes k)
 
   -- past those of the patterns and of k, the number is that of 6 and 7
-  pub several-late : given (severalPatternTests lengths (length bytes) k) ≡ 0
+  pub several-late : given (severalPatternTests lengths bytes k) ≡ 0
       → number ≡ given (severalSizeTests (length T) (length lengths) (length positions) (length numbers))
   several-late e = several-number ∙ sym (tested-later _ _ e)
 
-  -- 0, 1, 12, 2, 6 or 7: without a method 3, 4 and 5 never come
-  pub several-numbers : List·Memᴰ number (0 ∷ 1 ∷ 12 ∷ 2 ∷ 6 ∷ 7 ∷ [])
-  unfolding severalNumber severalTests severalPatternTests severalSizeTests eachLengthTests setTests toleranceTests textTests pairPlaceTests
-  several-numbers = given-among (severalTests lengths (length bytes) k (length T) (length positions) (length numbers))
+  -- 0, 1, 12, 13, 2, 6 or 7: without a method 3, 4 and 5 never come
+  pub several-numbers : List·Memᴰ number (0 ∷ 1 ∷ 12 ∷ 13 ∷ 2 ∷ 6 ∷ 7 ∷ [])
+  unfolding severalNumber severalTests severalPatternTests severalSizeTests eachLengthTests setTests lostTests toleranceTests textTests pairPlaceTests
+  several-numbers = given-among (severalTests lengths bytes k (length T) (length positions) (length numbers))
 
   -- a refusal leaves everything as it was
   pub several-refusal : (refusal : Refusal) → numberOf refusal ≡ number → WholeSeveral bytes lengths k T positions positions numbers numbers (Refused refusal)
@@ -70,12 +70,12 @@ module _ (bytes lengths : List ℕ) (k : ℕ) (T positions numbers : List ℕ) w
         by-steps = λ q. absurd (let positive = number-positive refusal in omega arith);
       }
 
-  pub several-refusal-early : (refusal : Refusal) → numberOf refusal ≡ given (severalPatternTests lengths (length bytes) k)
+  pub several-refusal-early : (refusal : Refusal) → numberOf refusal ≡ given (severalPatternTests lengths bytes k)
       → WholeSeveral bytes lengths k T positions positions numbers numbers (Refused refusal)
   several-refusal-early refusal e = several-refusal refusal (still-refused _ _ (Admission.Refused refusal) refusal refl e ∙ sym several-number)
 
   -- what the pass found
-  pub several-found : Bytes T → SeveralTaken lengths (length bytes) k → number ≡ 0 → {positions′ numbers′ : List ℕ} {counts : SearchCounts}
+  pub several-found : Bytes T → SeveralTaken lengths bytes k → number ≡ 0 → {positions′ numbers′ : List ℕ} {counts : SearchCounts}
       → PassedOver (patternsOf lengths bytes) k T positions positions′ numbers numbers′ counts
       → WholeSeveral bytes lengths k T positions positions′ numbers numbers′ (Listed (counts .found) (counts .inspections))
   several-found bytes-right taken e passed =

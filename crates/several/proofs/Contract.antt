@@ -44,13 +44,13 @@ module _ {bytes lengths : List ℕ} {k : ℕ} {T positions positions′ numbers 
 
     -- accepted: what the tests have let pass,
     parts-given :
-        (given (severalPatternTests lengths (length bytes) k) ≡ 0)
+        (given (severalPatternTests lengths bytes k) ≡ 0)
         × (given (severalSizeTests (length T) (length lengths) (length positions) (length numbers)) ≡ 0)
     unfolding severalNumber severalTests
-    parts-given = given-append-none (severalPatternTests lengths (length bytes) k) _ (several-pattern-numbered lengths (length bytes) k) none-given
+    parts-given = given-append-none (severalPatternTests lengths bytes k) _ (several-pattern-numbered lengths bytes k) none-given
 
-    pub patterns-taken : SeveralTaken lengths (length bytes) k
-    patterns-taken = several-taken lengths (length bytes) k (parts-given .0)
+    pub patterns-taken : SeveralTaken lengths bytes k
+    patterns-taken = several-taken lengths bytes k (parts-given .0)
 
     pub sizes-taken : PairTaken (length T) (length lengths) (length positions) (length numbers)
     sizes-taken = pair-taken (length T) (length lengths) (length positions) (length numbers) (parts-given .1)

@@ -5,3 +5,4 @@ pub mod Words
 pub mod Contract
 pub mod Separate
 pub mod Example
+pub mod Lost

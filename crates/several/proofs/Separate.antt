@@ -1,13 +1,15 @@
 -- One pass for several patterns is the counting searches for each of them, put together (document 02, T-01): from the contracts of the calls and laws
 -- about the definitions.
 use mathlib.Core.Path.{_≡_, sym, ap, ap₂, _∙_}
+use mathlib.Core.Bool.{false}
 use mathlib.Core.List.{List, List·Memᴰ}
 use mathlib.Core.Logic.{_↔_, _⊎_, ⊎-elim}
-use Prim.Native.Nat.{ℕ, suc, _+_, _≤_, _<_}
+use Prim.Native.Nat.{ℕ, suc, _+_, _-_, _≤_, _<_}
 use native.Mathlib.Omega.{arith}
 use lib.ListN.{length, getD, take, List·getD-map}
 use lib.Seq.{getD-take}
-use Rattle.jumbled.specs.Match.{excess, window, positions}
+use Rattle.jumbled.specs.Match.{occurs, lostHour, excess, window, positions}
+use Rattle.jumbled.proofs.Counts.{occurs-none, lacked}
 use Rattle.jumbled.specs.Scan.{Result}
 use Rattle.jumbled.proofs.Sums.{below-or-not, sum-ext}
 use Rattle.jumbled.proofs.Admission.{first-chunk, size-fits}
@@ -24,6 +26,7 @@ use Rattle.several_form.specs.Finds.{Find, numbered, commonLength, partIn, side
 use Rattle.several_form.specs.Mcount.{mcount}
 use Rattle.several_form.specs.Handed.{patternsOf}
 use Rattle.several_form.proofs.Passes.{common-length, mcount-inspections, mcount-none}
+use Rattle.several_form.proofs.Handed.{none-in-each}
 use Rattle.several_form.proofs.Separate.{read-back, separate, found-together}
 use Rattle.several_form.proofs.Pairs.{noFind, finds-rise, finds-numbered}
 use Rattle.several.specs.Whole.{WholeSeveral}
@@ -55,12 +58,19 @@ module _ {bytes lengths : List ℕ} {k : ℕ} {T listBefore list numbersBefore n
     common : length (numbered Ps number) ≡ commonLength Ps
     common = one-length ∙ sym (common-length (taken-together bytes lengths k (patterns-taken contract ok)))
 
+    -- it holds no lost hour
+    pub none-lost : occurs (numbered Ps number) lostHour ≡ false
+    none-lost =
+        occurs-none (numbered Ps number) lostHour
+        (none-in-each lengths bytes lostHour (lacked bytes lostHour (patterns-taken contract ok .none-lost)) (number - 1))
+
     -- a counting search for it is accepted, in any list that has as many places as the text has bytes
     pub separately-accepted : (places : List ℕ) → length T ≤ length places → wholeNumber (numbered Ps number) k 1 T places ≡ 0
     separately-accepted places room =
         let taken = patterns-taken contract ok in
         whole-late (numbered Ps number) k 1 T places
-        (counting-taken (numbered Ps number) k (omega (arith, one-length, taken .set .some)) (omega (arith, one-length, taken .set .short)) (omega (arith, one-length, taken .within)))
+        (counting-taken (numbered Ps number) k (omega (arith, one-length, taken .set .some)) (omega (arith, one-length, taken .set .short)) none-lost
+        (omega (arith, one-length, taken .within)))
         ∙ first-chunk (length T) (length places)
         ∙ size-fits (length T) (length places) (sizes-taken contract ok .not-long) room
 

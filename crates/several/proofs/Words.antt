@@ -29,7 +29,7 @@ module _ {count waiting : ℕ} {fields : Fields} (are : FieldsFor count waiting 
 
 -- ---- with all patterns placed
 
-module _ (bytes lengths : List ℕ) (k : ℕ) (T positions numbers : List ℕ) (taken : SeveralTaken lengths (length bytes) k)
+module _ (bytes lengths : List ℕ) (k : ℕ) (T positions numbers : List ℕ) (taken : SeveralTaken lengths bytes k)
     (sized : PairTaken (length T) (length lengths) (length positions) (length numbers)) where
   abbrev m : ℕ
   m = getD lengths 0 0

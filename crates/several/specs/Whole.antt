@@ -14,7 +14,7 @@ use Rattle.several_form.specs.Handed.{patternsOf}
 
 -- The number that it gives, for patterns that are handed in as their bytes and their lengths, and for lists of so many places
 unfoldable pub severalNumber : (bytes lengths : List ℕ) → ℕ → List ℕ → (positionList numberList : List ℕ) → ℕ
-severalNumber bytes lengths k T positionList numberList = given (severalTests lengths (length bytes) k (length T) (length positionList) (length numberList))
+severalNumber bytes lengths k T positionList numberList = given (severalTests lengths bytes k (length T) (length positionList) (length numberList))
 
 -- What it says of the text T, and what the two lists hold before and after it
 pub record WholeSeveral (bytes lengths : List ℕ) (k : ℕ) (T positionList positionList′ numberList numberList′ : List ℕ) (r : Answer) : Type 0 where

@@ -19,7 +19,7 @@ pub fn whole(
     ensures { λ r. ⌜ WholeSeveral (now (patterns .entry)) (now (lengths .entry)) k (now (text .entry)) (now (positions .entry)) (now (positions .exit))
         (now (numbers .entry)) (now (numbers .exit)) r ⌝ }
 {
-    let admission = admit_several::admit(lengths, patterns.len(), k);
+    let admission = admit_several::admit(lengths, patterns, k);
     if let Admission::Refused(refusal) = admission {
         return Answer::Refused(refusal);
     }
@@ -38,7 +38,7 @@ pub fn whole(
     let fields = several_fields::fields_for(count, m - k as usize);
     // One less than the top bit in every field; each pattern adds what it has of a byte.
     let mut rooms = [fields.tops - fields.ones; 256];
-    several_fields::place_patterns(patterns, m, count, &mut rooms);
+    several_fields::place_patterns(patterns, m, count, fields, &mut rooms);
     let counts = several_pass::pass(m, count, fields, &mut rooms, text, positions, numbers);
     Answer::Listed {
         found: counts.found,

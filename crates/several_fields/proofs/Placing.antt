@@ -8,7 +8,7 @@ use native.Mathlib.Omega.{arith}
 use lib.Dec.{eqb, lit<}
 use lib.ListN.{length, getD, set, take, drop, length-take}
 use borrow.Author.Tests.{eqb-true}
-use Rattle.jumbled.specs.Match.{bit, cc}
+use Rattle.jumbled.specs.Match.{bit, cc, lostHour, lost}
 use Rattle.jumbled.proofs.Counts.{cc-nil, cc-cons, cc-turned, cc-length}
 use Rattle.table_parikh.specs.Table.{tabulate}
 use Rattle.table_parikh.proofs.Tables.{length-tabulate, getD-tabulate, tabulate-set, tabulate-ext, tabulate-replicate, is-tabulate}
@@ -16,8 +16,9 @@ use Rattle.table_parikh.proofs.Letters.{take-more}
 use Rattle.table_packed.specs.Pack.{pack}
 use Rattle.table_packed.proofs.Packs.{pack-add, pack-ext, pack-upto}
 use Rattle.several_form.specs.Mcount.{topValue}
+use Rattle.several_fields.specs.declared.Fields.{Fields}
 use Rattle.several_fields.specs.Words.{fieldBits, packed, roomValue, Placeable, unitsAdded, patternAt, Placing, Placed}
-use Rattle.several_fields.proofs.Packing.{packed-more, unit-at, packed-fits, packed-below}
+use Rattle.several_fields.proofs.Packing.{packed-more, unit-at, packed-fits, packed-below, packed-scale}
 
 -- ---- one pattern
 
@@ -76,7 +77,7 @@ module _ (pattern : List ℕ) (unit : ℕ) (rooms : List ℕ) (i : ℕ) (inside 
 abbrev pub placedWord : ℕ → List ℕ → ℕ → ℕ → ℕ → ℕ
 placedWord m patterns count n c = packed (λ f. topValue - 1) count + packed (λ f. cc (patternAt m patterns f) c) n
 
-module _ {patterns : List ℕ} {m count : ℕ} {rooms : List ℕ} (given : Placing patterns m count rooms) where
+module _ {patterns : List ℕ} {m count : ℕ} {fields : Fields} {rooms : List ℕ} (given : Placing patterns m count fields rooms) where
   pub placed-none : rooms ≡ tabulate 256 (placedWord m patterns count 0)
   unfolding pack
   placed-none =
@@ -148,9 +149,26 @@ module _ {patterns : List ℕ} {m count : ℕ} {rooms : List ℕ} (given : Placi
         pub part-added : unitsAdded part unit so-far ≡ tabulate 256 (placedWord m patterns count (n + 1))
         part-added = rw (part-is, unit-is, placed) placed-more
 
-  pub placed-all : Placed patterns m count (tabulate 256 (placedWord m patterns count count))
+  -- the lost hour's room, the same in every field
+  lost-room : fields .ones * 191 ≡ packed (λ f. topValue - 1 + 64) count
+  lost-room =
+      ap (λ (ones : ℕ). ones * 191) (given .fields-are .ones-are)
+      ∙ packed-scale (λ f. 1) 191 count
+      ∙ pack-ext fieldBits (λ f. 1 * 191) (λ f. topValue - 1 + 64) count (λ f l. refl)
+
+  pub lost-room-fits : fields .ones * 191 < 2 ^ 64
+  lost-room-fits = rw lost-room (packed-fits (λ f. topValue - 1 + 64) count (given .few) (λ f l. lit< tt))
+
+  pub placed-all : Placed patterns m count (set (tabulate 256 (placedWord m patterns count count)) lostHour (fields .ones * 191))
   placed-all =
-      tabulate-ext 256 (placedWord m patterns count count) (λ c. packed (λ f. roomValue (patternAt m patterns f) [] c) count)
-      (λ c l.
-      pack-add fieldBits (λ f. topValue - 1) (λ f. cc (patternAt m patterns f) c) count
-      ∙ pack-ext fieldBits _ (λ f. roomValue (patternAt m patterns f) [] c) count (λ f h. omega (arith, cc-nil c)))
+      tabulate-set 256 (placedWord m patterns count count) lostHour (fields .ones * 191)
+      ∙ tabulate-ext 256 (λ c. cond (lost c) (fields .ones * 191) (placedWord m patterns count count c))
+      (λ c. packed (λ f. roomValue (patternAt m patterns f) [] c) count) (λ c l. by c (lost c))
+    where
+      by : (c : ℕ) (t : Bool)
+          → cond t (fields .ones * 191) (placedWord m patterns count count c)
+          ≡ packed (λ f. topValue + cond t 64 (cc (patternAt m patterns f) c) - cc [] c - 1) count
+      by c true = lost-room ∙ pack-ext fieldBits _ (λ f. topValue + 64 - cc [] c - 1) count (λ f h. omega (arith, cc-nil c))
+      by c false =
+          pack-add fieldBits (λ f. topValue - 1) (λ f. cc (patternAt m patterns f) c) count
+          ∙ pack-ext fieldBits _ (λ f. topValue + cc (patternAt m patterns f) c - cc [] c - 1) count (λ f h. omega (arith, cc-nil c))

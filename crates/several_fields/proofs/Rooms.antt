@@ -9,8 +9,8 @@ use lib.Bits.{bitAnd}
 use lib.Dec.{leb, eqb}
 use lib.ListN.{length, getD, set, length-append}
 use borrow.Author.Tests.{eq-eqb, eqb-true, le-leb, lt-leb}
-use Rattle.jumbled.specs.Match.{bit, cc, usedUp}
-use Rattle.jumbled.proofs.Counts.{cc-cons, cc-turned, cc-length, used-up, not-used-up, excess-length, bytes-cons}
+use Rattle.jumbled.specs.Match.{bit, cc, lost, usedUp}
+use Rattle.jumbled.proofs.Counts.{cc-cons, cc-turned, cc-length, used-up, not-used-up, used-up-lost, excess-length, bytes-cons}
 use Rattle.jumbled.proofs.Sums.{below-or-not}
 use Rattle.table_parikh.specs.Table.{tabulate}
 use Rattle.table_parikh.proofs.Tables.{getD-tabulate, tabulated, tabulate-set, tabulate-ext}
@@ -18,18 +18,23 @@ use Rattle.table_packed.proofs.Packs.{pack-add, pack-ext}
 use Rattle.several_form.specs.Mcount.{topValue, acceptable, fieldAfter}
 use Rattle.several_form.proofs.Fields.{field-entered, field-given-back}
 use Rattle.several_fields.specs.declared.Fields.{Fields}
-use Rattle.several_fields.specs.Words.{fieldBits, packed, roomValue, Several, WordsOf, Taking, Giving}
+use Rattle.several_fields.specs.Words.{fieldBits, packed, roomFor, roomValue, Several, WordsOf, Taking, Giving}
 use Rattle.several_fields.proofs.Packing.{packed-fits, fields-apart, packed-sub, packed-below, tops-down}
 
 -- ---- one pattern
 
 -- the top bit of what a byte's word holds of it
-room-top : (P U : List ℕ) (c : ℕ) → bit (leb topValue (roomValue P U c)) ≡ acceptable P U c
+room-top : (P U : List ℕ) (c : ℕ) → length U < 64 → bit (leb topValue (roomValue P U c)) ≡ acceptable P U c
 unfolding acceptable
-room-top P U c =
-    ⊎-elim
-    (λ (more : cc U c < cc P c). rw (not-used-up P U c more, le-leb topValue (roomValue P U c) (omega arith)) refl)
-    (λ (none : cc P c ≤ cc U c). rw (used-up P U c none, lt-leb topValue (roomValue P U c) (omega arith)) refl) (below-or-not (cc U c) (cc P c))
+room-top P U c short = by (lost c) refl
+  where
+    by : (t : Bool) → lost c ≡ t → bit (leb topValue (topValue + cond t 64 (cc P c) - cc U c - 1)) ≡ bit (not (usedUp P U c))
+    by true e = rw (used-up-lost P U c e, le-leb topValue (topValue + 64 - cc U c - 1) (omega (arith, cc-length U c))) refl
+    by false e =
+        ⊎-elim
+        (λ (more : cc U c < cc P c). rw (not-used-up P U c more, le-leb topValue (topValue + cc P c - cc U c - 1) (omega arith)) refl)
+        (λ (none : cc P c ≤ cc U c). rw (used-up P U c e none, lt-leb topValue (topValue + cc P c - cc U c - 1) (omega arith)) refl)
+        (below-or-not (cc U c) (cc P c))
 
 -- one more of the byte leaves one less
 own-one-more : (U : List ℕ) (b : ℕ) → cc (b ∷ U) b ≡ 1 + cc U b
@@ -39,11 +44,11 @@ room-less : (P U : List ℕ) (b : ℕ) → roomValue P U b - 1 ≡ roomValue P (
 room-less P U b = omega (arith, own-one-more U b)
 
 room-other : (P U : List ℕ) (b c : ℕ) → eqb b c ≡ false → roomValue P (b ∷ U) c ≡ roomValue P U c
-room-other P U b c e = ap (λ (n : ℕ). topValue + cc P c - n - 1) (cc-cons b U c ∙ ap (λ (t : Bool). bit t + cc U c) e ∙ omega arith)
+room-other P U b c e = ap (λ (n : ℕ). topValue + roomFor P c - n - 1) (cc-cons b U c ∙ ap (λ (t : Bool). bit t + cc U c) e ∙ omega arith)
 
 -- at whichever end it stands
 room-turned : (P U : List ℕ) (b c : ℕ) → roomValue P (b ∷ U) c ≡ roomValue P (U ++ (b ∷ [])) c
-room-turned P U b c = ap (λ (n : ℕ). topValue + cc P c - n - 1) (sym (cc-turned b U c))
+room-turned P U b c = ap (λ (n : ℕ). topValue + roomFor P c - n - 1) (sym (cc-turned b U c))
 
 -- ---- all of them
 
@@ -56,7 +61,11 @@ module _ {fields : Fields} (of : Several fields) where
   roomTable U = tabulate 256 (roomWord U)
 
   room-small : (U : List ℕ) (c f : ℕ) → f < of .count → roomValue (of .pattern f) U c < 256
-  room-small U c f l = omega (arith, cc-length (of .pattern f) c, of .short f l)
+  room-small U c f l = omega (arith, most (lost c))
+    where
+      most : (t : Bool) → cond t 64 (cc (of .pattern f) c) ≤ 64
+      most true = omega arith
+      most false = omega (arith, cc-length (of .pattern f) c, of .short f l)
 
   field-small : (U : List ℕ) → length U ≤ 64 → (f : ℕ) → f < of .count → fieldAfter (of .pattern f) (of .k) U < 256
   field-small U short f l = omega (arith, of .tolerance f l)
@@ -73,13 +82,13 @@ module _ {fields : Fields} (of : Several fields) where
         ∙ fields-apart (λ f. roomValue (of .pattern f) U c) (of .count) (room-small U c) f l
 
   -- what a byte adds to the window's word, or takes from it
-  accepted-word : (U : List ℕ) (c : ℕ)
+  accepted-word : (U : List ℕ) (c : ℕ) → length U < 64
       → bitAnd (roomWord U c) (fields .tops) / 2 ^ 7 ≡ packed (λ f. acceptable (of .pattern f) U c) (of .count)
-  accepted-word U c =
+  accepted-word U c short =
       ap (λ (tops : ℕ). bitAnd (roomWord U c) tops / 2 ^ 7) (of .fields-are .tops-are)
       ∙ tops-down (λ f. roomValue (of .pattern f) U c) (of .count) (room-small U c)
       ∙ pack-ext fieldBits (λ f. bit (leb topValue (roomValue (of .pattern f) U c))) (λ f. acceptable (of .pattern f) U c) (of .count)
-      (λ f l. room-top (of .pattern f) U c)
+      (λ f l. room-top (of .pattern f) U c short)
 
   -- every pattern has one less to allow of the byte
   room-there : (U : List ℕ) (b : ℕ) → length U < 64 → (f : ℕ) → f < of .count → 1 ≤ roomValue (of .pattern f) U b
@@ -125,7 +134,7 @@ module _ {fields : Fields} {word byte : ℕ} {rooms : List ℕ} (ready : Taking 
 
   word-more : word + accepted ≡ packed (λ f. fieldAfter (ready .of .pattern f) (ready .of .k) more) (ready .of .count)
   word-more =
-      ap₂ _+_ (ready .words .window-word) (ap (λ (room : ℕ). bitAnd room (fields .tops) / 2 ^ 7) room-is ∙ accepted-word (ready .of) U byte)
+      ap₂ _+_ (ready .words .window-word) (ap (λ (room : ℕ). bitAnd room (fields .tops) / 2 ^ 7) room-is ∙ accepted-word (ready .of) U byte (ready .short))
       ∙ pack-add fieldBits (λ f. fieldAfter (ready .of .pattern f) (ready .of .k) U) (λ f. acceptable (ready .of .pattern f) U byte) (ready .of .count)
       ∙ pack-ext fieldBits _ (λ f. fieldAfter (ready .of .pattern f) (ready .of .k) more) (ready .of .count)
       (λ f l. field-entered (ready .of .pattern f) (ready .of .k) (ready .of .short f l) U byte is-byte (ready .bytes))
@@ -167,7 +176,7 @@ module _ {fields : Fields} {word byte : ℕ} {rooms : List ℕ} (ready : Giving 
   given = bitAnd (getD rooms byte 0 + fields .ones) (fields .tops) / 2 ^ 7
 
   given-word : given ≡ packed (λ f. acceptable (ready .of .pattern f) W byte) (ready .of .count)
-  given-word = ap (λ (room : ℕ). bitAnd room (fields .tops) / 2 ^ 7) room-back ∙ accepted-word (ready .of) W byte
+  given-word = ap (λ (room : ℕ). bitAnd room (fields .tops) / 2 ^ 7) room-back ∙ accepted-word (ready .of) W byte (ready .short)
 
   field-has : (f : ℕ) → f < ready .of .count → acceptable (ready .of .pattern f) W byte ≤ fieldAfter (ready .of .pattern f) (ready .of .k) (byte ∷ W)
   unfolding acceptable

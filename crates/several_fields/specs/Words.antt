@@ -1,9 +1,10 @@
--- The packed words of a search for several patterns: document 02, T-01; document 000, section 2, algorithm 2, with d = 7.
+-- The packed words of a search for several patterns: document 02, T-01, and T-07 for lost hours; document 000, section 2, algorithm 2, with d = 7.
 use mathlib.Core.Path.{_≡_}
+use mathlib.Core.Bool.{cond}
 use mathlib.Core.List.{List, [], _∷_, _++_}
 use Prim.Native.Nat.{ℕ, _+_, _-_, _*_, _^_, _≤_, _<_}
 use lib.ListN.{length, getD, take, drop, replicate}
-use Rattle.jumbled.specs.Match.{Bytes, cc}
+use Rattle.jumbled.specs.Match.{Bytes, cc, lost}
 use Rattle.table_parikh.specs.Table.{tabulate}
 use Rattle.table_packed.specs.Pack.{pack}
 use Rattle.several_form.specs.Mcount.{topValue, fieldAfter}
@@ -19,9 +20,13 @@ fieldBits f = 8
 abbrev pub packed : (ℕ → ℕ) → ℕ → ℕ
 packed v count = pack fieldBits v count
 
--- What a byte's word holds of a pattern once the bytes U are taken: one less than the top bit's value, and how many more of the byte the pattern has
+-- How many of a byte a pattern has room for: as many as it has, and as many lost hours as a window has bytes
+abbrev pub roomFor : List ℕ → ℕ → ℕ
+roomFor P c = cond (lost c) 64 (cc P c)
+
+-- What a byte's word holds of a pattern once the bytes U are taken: one less than the top bit's value, and how many more of the byte there is room for
 abbrev pub roomValue : List ℕ → List ℕ → ℕ → ℕ
-roomValue P U c = topValue + cc P c - cc U c - 1
+roomValue P U c = topValue + roomFor P c - cc U c - 1
 
 -- The words once the bytes U are taken, for count patterns, P(f) in the field f: the window's, and one for each byte
 pub record Words (P : ℕ → List ℕ) (count k : ℕ) (U : List ℕ) (word : ℕ) (rooms : List ℕ) : Type 0 where
@@ -51,7 +56,9 @@ abbrev pub patternAt : ℕ → List ℕ → ℕ → List ℕ
 patternAt m patterns f = take m (drop (f * m) patterns)
 
 -- Up to eight of them, and words that hold one less than the top bit's value in every field
-pub record Placing (patterns : List ℕ) (m count : ℕ) (rooms : List ℕ) : Type 0 where
+pub record Placing (patterns : List ℕ) (m count : ℕ) (fields : Fields) (rooms : List ℕ) : Type 0 where
+  pub waiting : ℕ
+  pub fields-are : FieldsFor count waiting fields
   pub few : count ≤ 8
   pub short : m ≤ 64
   pub enough : count * m ≤ length patterns

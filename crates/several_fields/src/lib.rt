@@ -1,10 +1,11 @@
 // The packed words of a search for several patterns (document 02, T-01; Mcount in document 000, section 2, algorithm 2). Each pattern has a field of
 // eight bits, the first one the lowest. In the window's word a field's top bit says that the pattern is found. In a byte's word it says that the
-// pattern has more of the byte than the window, so that one more would be acceptable.
+// pattern has more of the byte than the window, so that one more would be acceptable, as a lost hour always is (document 02, T-07).
 
 ghost use Prim.Native.Nat.{_*_, _+_, _≤_, _<_};
 ghost use mathlib.Core.Path.{_≡_};
 ghost use Rattle.several_fields.specs.Words.{FieldsFor, Placeable, unitsAdded, Placing, Placed, Taking, Taken, Giving, Given};
+use table_parikh::LOST_HOUR;
 
 // What all words of a search have in common.
 pub struct Fields {
@@ -43,9 +44,16 @@ fn place_pattern(pattern: &[u8], unit: u64, rooms: &mut [u64; 256])
     }
 }
 
-// All patterns, which have m bytes each and follow one another. The rooms are lent with one less than the top bit in every field.
-pub fn place_patterns(patterns: &[u8], m: usize, count: usize, rooms: &mut [u64; 256])
-    requires { ⌜ Placing (now patterns) m count (now rooms) ⌝ }
+// All patterns, which have m bytes each and follow one another. The rooms are lent with one less than the top bit in every field. A lost hour gets
+// room for as many as a window has bytes.
+pub fn place_patterns(
+    patterns: &[u8],
+    m: usize,
+    count: usize,
+    fields: Fields,
+    rooms: &mut [u64; 256],
+)
+    requires { ⌜ Placing (now patterns) m count fields (now rooms) ⌝ }
     ensures { λ r. ⌜ Placed (now (patterns .entry)) m count (now (rooms .exit)) ⌝ }
 {
     let mut at = 0;
@@ -53,6 +61,7 @@ pub fn place_patterns(patterns: &[u8], m: usize, count: usize, rooms: &mut [u64;
         place_pattern(&patterns[at..at + m], 1u64 << (8 * field), rooms);
         at += m;
     }
+    rooms[LOST_HOUR as usize] = fields.ones * 191; // one less than the top bit, and 64
 }
 
 // A byte enters the window: the word grows where it is acceptable.

@@ -3,9 +3,9 @@ use mathlib.Core.Path.{_≡_, refl}
 use mathlib.Core.List.{List, [], _∷_, map, flatMap}
 use Prim.Native.Nat.{ℕ}
 use lib.ListN.{replicate}
-use Rattle.jumbled.specs.Match.{cc, sum, excess, matches, select, positions}
+use Rattle.jumbled.specs.Match.{cc, occurs, sum, evidence, beyond, excess, matches, select, positions}
 use Rattle.jumbled.specs.Fields.{first, lg, fieldOf, layoutOf, widthOf, bits}
-use Rattle.jumbled.specs.Refusals.{given, isMethod, exactOnly, lengthTests, toleranceTests, knownTests, exactTests, widthTests, textTests, placeTests, bufferTests, methodTests, patternTests, sizeTests, wholeTests, sheetTests}
+use Rattle.jumbled.specs.Refusals.{given, isMethod, exactOnly, lengthTests, lostTests, toleranceTests, knownTests, exactTests, widthTests, textTests, placeTests, bufferTests, methodTests, patternTests, sizeTests, wholeTests, sheetTests}
 use Rattle.ascii.specs.Codes.{ascii}
 use Rattle.ascii.specs.Decimal.{digits, decimal}
 use Rattle.sheet_form.specs.Sheet.{shown, rightAligned, leftAligned, line, page, firstPages, joined, sheet}
@@ -38,10 +38,10 @@ rows =
     ∷ []
 
 pub rows-given : map (λ r. given (sheetTests (ascii "ab") (r .k) 1 (r .readings) (r .places) (r .buffer) (r .bytes))) rows ≡ 0 ∷ 10 ∷ 10 ∷ 0 ∷ 2 ∷ 6 ∷ 7 ∷ []
-unfolding ascii given isMethod exactOnly lengthTests toleranceTests knownTests exactTests widthTests textTests placeTests bufferTests methodTests patternTests sizeTests wholeTests sheetTests cc sum first lg fieldOf layoutOf widthOf bits
+unfolding occurs ascii given isMethod exactOnly lengthTests lostTests toleranceTests knownTests exactTests widthTests textTests placeTests bufferTests methodTests patternTests sizeTests wholeTests sheetTests cc sum first lg fieldOf layoutOf widthOf bits
 rows-given = refl
 
 -- The call's own number goes by this order, and by the sheet itself: for `ab` in `a b` with k = 1 and no buffer, two places get 7 and three get 10
 pub order-given : (wholeSheetNumber (ascii "ab") 1 1 (ascii "a b") (replicate 2 0) [] ≡ 7) × (wholeSheetNumber (ascii "ab") 1 1 (ascii "a b") (replicate 3 0) [] ≡ 10)
-unfolding wholeSheetNumber ascii given isMethod exactOnly lengthTests toleranceTests knownTests exactTests widthTests textTests placeTests bufferTests methodTests patternTests sizeTests wholeTests sheetTests cc sum excess matches select positions first lg fieldOf layoutOf widthOf bits flatMap digits decimal shown rightAligned leftAligned line page firstPages joined sheet
+unfolding occurs wholeSheetNumber ascii given isMethod exactOnly lengthTests lostTests toleranceTests knownTests exactTests widthTests textTests placeTests bufferTests methodTests patternTests sizeTests wholeTests sheetTests cc sum evidence beyond excess matches select positions first lg fieldOf layoutOf widthOf bits flatMap digits decimal shown rightAligned leftAligned line page firstPages joined sheet
 order-given = (refl, refl)

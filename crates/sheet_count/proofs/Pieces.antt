@@ -10,6 +10,7 @@ use Rattle.jumbled.specs.Scan.{Result, forward}
 use Rattle.jumbled.specs.Steps.{countJudged}
 use Rattle.jumbled.proofs.Cuts.{_then_, forward-cut, forward-count, forward-within, through-between}
 use Rattle.jumbled.proofs.Drivers.{forward-lists}
+use Rattle.table_parikh.specs.Table.{AllowedBy}
 use Rattle.lent.specs.declared.Range.{Range}
 use Rattle.loop_forward.specs.declared.CountStart.{CountStart}
 use Rattle.loop_forward.specs.declared.Sliding.{Sliding}
@@ -63,17 +64,17 @@ module _ {T : List ℕ} (bytes : Bytes T) where
 
 -- ---- a piece
 
-module _ {P counts T : List ℕ} (ready : Countable P counts T) where
-  abbrev pub for-start : length P ≤ length T → CountStartable (length P) counts T
+module _ {P counts allowed T : List ℕ} (ready : Countable P counts T) (table : AllowedBy counts allowed) where
+  abbrev pub for-start : length P ≤ length T → CountStartable (length P) allowed T
   for-start whole =
-      record { of = P; pattern-counts = ready .pattern-counts; some = ready .some; short = ready .short; enough = omega arith }
+      record { of = P; allows = table P (ready .pattern-counts); some = ready .some; short = ready .short; enough = omega arith }
 
   module _ {k : ℕ} {sliding : Sliding} {first found end : ℕ} (so-far : CountedTo P k T sliding first found) where
-    abbrev pub for-piece : end ≡ starts (length P) T → CountSearchable (length P) counts T sliding (rest first end)
+    abbrev pub for-piece : end ≡ starts (length P) T → CountSearchable (length P) allowed T sliding (rest first end)
     for-piece ends =
         record {
           of = P;
-          pattern-counts = ready .pattern-counts;
+          allows = table P (ready .pattern-counts);
           fitting =
               record {
                 some = ready .some;

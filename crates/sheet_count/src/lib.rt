@@ -17,7 +17,8 @@ pub fn count_matches(pattern: &[u8], counts: &[u8; 256], k: usize, text: &[u8]) 
     if text.len() < m {
         return 0;
     }
-    let started = loop_forward::count_start(m, counts, text);
+    let allowed = table_parikh::allowances(counts);
+    let started = loop_forward::count_start(m, &allowed, text);
     let end = text.len() - m + 1;
     let mut places = [0u32; 64];
     let mut sliding = started.sliding;
@@ -30,7 +31,7 @@ pub fn count_matches(pattern: &[u8], counts: &[u8; 256], k: usize, text: &[u8]) 
             base: 0,
             at: 0, // from the first place again
         };
-        let counted = loop_count::count_windows(m, counts, k, text, sliding, range, &mut places);
+        let counted = loop_count::count_windows(m, &allowed, k, text, sliding, range, &mut places);
         sliding = counted.sliding;
         first = counted.next;
         found += counted.at;

@@ -4,7 +4,7 @@ use mathlib.Core.Path.{_≡_, refl}
 use mathlib.Core.List.{List, [], _∷_, map, flatMap}
 use Prim.Native.Nat.{ℕ}
 use lib.ListN.{replicate, getD}
-use Rattle.jumbled.specs.Match.{cc, sum, excess, matches, select, positions}
+use Rattle.jumbled.specs.Match.{cc, sum, evidence, beyond, excess, matches, select, positions}
 use Rattle.ascii.specs.Codes.{ascii}
 use Rattle.ascii.specs.Decimal.{digits, decimal, decimalValue}
 use Rattle.sheet_form.specs.Sheet.{shown, rightAligned, leftAligned, line, page, firstPages, joined, sheet, sheetOf, pageCount, sheetBytes}
@@ -17,7 +17,7 @@ twoLines =
     ascii "         0 a.                                                              \n         1 .b                                                              \n"
 
 pub two-lines : (sheetOf (ascii "ab") 1 (ascii "a b") ≡ twoLines) × (readSheet twoLines ≡ 0 ∷ 1 ∷ [])
-unfolding ascii cc sum excess matches select positions flatMap digits decimal decimalValue shown rightAligned leftAligned line page firstPages joined sheet inFront partsBy butLast pagesOn linesOn afterBlanks readLine readPage readPages readSheet
+unfolding ascii cc sum evidence beyond excess matches select positions flatMap digits decimal decimalValue shown rightAligned leftAligned line page firstPages joined sheet inFront partsBy butLast pagesOn linesOn afterBlanks readLine readPage readPages readSheet
 two-lines = (refl, refl)
 
 -- ---- at the edges
@@ -39,5 +39,5 @@ abbrev fiftyOne : List ℕ
 fiftyOne = sheetOf (ascii "a") 0 (replicate 51 97)
 
 pub second-page : readPage (getD (pagesOn fiftyOne) 1 []) ≡ 50 ∷ []
-unfolding ascii cc sum excess matches select positions flatMap digits decimal decimalValue shown rightAligned leftAligned line page firstPages joined sheet inFront partsBy butLast pagesOn linesOn afterBlanks readLine readPage
+unfolding ascii cc sum evidence beyond excess matches select positions flatMap digits decimal decimalValue shown rightAligned leftAligned line page firstPages joined sheet inFront partsBy butLast pagesOn linesOn afterBlanks readLine readPage
 second-page = refl

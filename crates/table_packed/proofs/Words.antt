@@ -1,6 +1,7 @@
 -- What the tables are made by: a word of at most 64 bits that is put together field by field, and tables whose bytes have the shared field until
 -- their own is placed.
 use mathlib.Core.Path.{_≡_, refl, sym, ap, ap₂, _∙_}
+use mathlib.Core.Bool.{cond}
 use mathlib.Core.List.{List}
 use Prim.Native.Nat.{ℕ, suc, _+_, _*_, _-_, _^_, _≤_, _<_, min}
 use native.Mathlib.Nat.{zero-add, one-mul}
@@ -9,13 +10,14 @@ use native.Mathlib.Omega.{arith}
 use lib.Dec.{lit≤, lit<}
 use lib.ListN.{getD, set, replicate}
 use lib.Pow.{pow-pos, pow-mono}
-use Rattle.jumbled.specs.Match.{cc, sum}
+use Rattle.jumbled.specs.Match.{cc, sum, lostHour, lost}
 use Rattle.jumbled.specs.Fields.{Layout, layoutOf, shared, fieldCount, fieldOf, widthOf, startValue, bits}
 use Rattle.jumbled.proofs.Sums.{sum-zero, sum-suc}
 use Rattle.jumbled.proofs.Counts.{cc-length, cc-out}
 use Rattle.jumbled.proofs.Overflow.{Roomy, some-bits, width-none, width-own, width-shared, field-inside, field-outside}
 use Rattle.table_parikh.specs.Table.{tabulate}
 use Rattle.table_parikh.specs.declared.Span.{Span}
+use Rattle.table_parikh.proofs.Tables.{tabulate-set}
 use Rattle.table_parikh.proofs.Filled.{filled, filled-none, filled-set, filled-skip, filled-all}
 use Rattle.table_parikh.proofs.Spans.{span-first, span-last}
 use Rattle.table_widths.proofs.Widths.{layout-roomy, count-is}
@@ -232,11 +234,14 @@ module _ {counts : List ℕ} {span : Span} {k method : ℕ} (ready : Packing cou
   pub tabled-fits : {table : List ℕ} {at : ℕ} (c : ℕ) → Tabled (P ready) (L ready) h table at (min c 256) → at ≤ 64
   tabled-fits {table} {at} c t = at-fits (P ready) (L ready) h table at (min c 256) t (ready .packable .fits)
 
-  pub tabled-end : (table : List ℕ) (at c : ℕ) → span .past ≤ c → Tabled (P ready) (L ready) h table at (min c 256) → table ≡ tabulate 256 (λ i. h (fieldOf (P ready) i))
+  -- all bytes are placed, and the lost hour's entry is blanked
+  pub tabled-end : (table : List ℕ) (at c : ℕ) → span .past ≤ c → Tabled (P ready) (L ready) h table at (min c 256)
+      → set table lostHour 0 ≡ tabulate 256 (λ i. cond (lost i) 0 (h (fieldOf (P ready) i)))
   tabled-end table at c past t =
       let all : Tabled (P ready) (L ready) h table at 256
       = span-last (P ready) (Tabled (P ready) (L ready) h table at) (λ d l none u. tabled-none (P ready) (L ready) h table at d u l none) (ready .of .spanned) c past t in
-      all .table-is ∙ filled-all 256 (λ i. h (fieldOf (P ready) i)) (h shared) 256 (omega arith)
+      ap (λ (l : List ℕ). set l lostHour 0) (all .table-is ∙ filled-all 256 (λ i. h (fieldOf (P ready) i)) (h shared) 256 (omega arith))
+      ∙ tabulate-set 256 (λ i. h (fieldOf (P ready) i)) lostHour 0
 
 -- ---- the word while it is put together
 
@@ -296,7 +301,7 @@ module _ {counts : List ℕ} {span : Span} {k method : ℕ} (ready : Packing cou
 
   -- all fields are placed
   pub packed-end : (start tops c : ℕ) (units : List ℕ) (at : ℕ) → span .past ≤ c → Summed (P ready) (L ready) start tops (min c 256)
-      → Tabled (P ready) (L ready) (unitOf (P ready) (L ready)) units at (min c 256) → Packed (P ready) (L ready) (record { start = start; tops = tops }) units
+      → Tabled (P ready) (L ready) (unitOf (P ready) (L ready)) units at (min c 256) → Packed (P ready) (L ready) (record { start = start; tops = tops }) (set units lostHour 0)
   packed-end start tops c units at past s t =
       let all : Summed (P ready) (L ready) start tops 256
       = span-last (P ready) (Summed (P ready) (L ready) start tops) (λ d l none u. summed-none (P ready) (L ready) start tops d u l none) (ready .of .spanned) c past s in

@@ -1,9 +1,10 @@
--- The packed word of a pattern: document 01, "The five methods", 2 to 4.
+-- The packed word of a pattern: document 01, "The five methods", 2 to 4; document 02, T-07, for lost hours.
 use mathlib.Core.Path.{_≡_}
+use mathlib.Core.Bool.{cond}
 use mathlib.Core.List.{List}
 use Prim.Native.Nat.{ℕ, _*_, _-_, _^_, _≤_}
 use lib.ListN.{length, replicate}
-use Rattle.jumbled.specs.Match.{sum}
+use Rattle.jumbled.specs.Match.{sum, lost}
 use Rattle.jumbled.specs.Fields.{Layout, layoutOf, bits, shared, fieldCount, fieldOf, widthOf, startValue}
 use Rattle.table_parikh.specs.Table.{tabulate}
 use Rattle.table_parikh.specs.declared.Span.{Span}
@@ -27,6 +28,14 @@ unitOf P layout f = pack (widthOf P layout) (only f 1) fieldCount
 abbrev pub topOf : List ℕ → Layout → ℕ → ℕ
 topOf P layout f = pack (widthOf P layout) (only f (topBit (widthOf P layout f))) fieldCount
 
+-- What an inspection of the byte c adds to the word, and the top bit of c's field, which method 4 tests after it: neither has anything for a lost
+-- hour
+abbrev pub added : List ℕ → Layout → ℕ → ℕ
+added P layout c = cond (lost c) 0 (unitOf P layout (fieldOf P c))
+
+abbrev pub tested : List ℕ → Layout → ℕ → ℕ
+tested P layout c = cond (lost c) 0 (topOf P layout (fieldOf P c))
+
 -- The field f of the pattern P
 pub record FieldIs (P : List ℕ) (layout : Layout) (f : ℕ) (r : Field) : Type 0 where
   pub start : r .start ≡ startValue P layout f * 2 ^ sum f (widthOf P layout)
@@ -40,11 +49,11 @@ pub record FieldIs (P : List ℕ) (layout : Layout) (f : ℕ) (r : Field) : Type
 pub record Packed (P : List ℕ) (layout : Layout) (r : Word) (units : List ℕ) : Type 0 where
   pub start : r .start ≡ pack (widthOf P layout) (startValue P layout) fieldCount
   pub tops : r .tops ≡ pack (widthOf P layout) (λ f. topBit (widthOf P layout f)) fieldCount
-  pub units-are : units ≡ tabulate 256 (λ c. unitOf P layout (fieldOf P c))
+  pub units-are : units ≡ tabulate 256 (added P layout)
 
--- and in method 4 the top bit of each byte's field
+-- and in method 4 the top bit that is tested after it
 abbrev pub OwnTops : List ℕ → Layout → List ℕ → Type 0
-OwnTops P layout tops = tops ≡ tabulate 256 (λ c. topOf P layout (fieldOf P c))
+OwnTops P layout tops = tops ≡ tabulate 256 (tested P layout)
 
 -- ---- what they are made from
 

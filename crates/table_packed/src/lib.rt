@@ -4,6 +4,7 @@ ghost use mathlib.Core.Path.{_≡_};
 ghost use Prim.Native.Nat.{_+_, _-_, _^_, _≤_};
 ghost use lib.ListN.{replicate};
 ghost use Rattle.table_packed.specs.Word.{FieldPlaced, Packing, SharedField, PackedBy, SharedTops, OwnTopsBy};
+use table_parikh::LOST_HOUR;
 use table_parikh::Span;
 
 // A field of the packed word, each number at the field's place: its start value, what an inspection adds, its top bit.
@@ -44,8 +45,8 @@ pub struct Word {
     pub tops: u64,
 }
 
-// The word, and what an inspection of each byte adds: units is lent with the shared field's unit for every byte, and the pattern's own
-// bytes get theirs.
+// The word, and what an inspection of each byte adds: units is lent with the shared field's unit for every byte, the pattern's own bytes get theirs,
+// and a lost hour adds nothing (document 02, T-07).
 pub fn place_units(
     counts: &[u8; 256],
     span: Span,
@@ -72,10 +73,12 @@ pub fn place_units(
             at += width;
         }
     }
+    units[LOST_HOUR as usize] = 0;
     Word { start, tops }
 }
 
-// The top bit of each byte's field, which method 4 tests: own_tops is lent with the shared field's for every byte.
+// The top bit of each byte's field, which method 4 tests: own_tops is lent with the shared field's for every byte. A lost hour has none to test, so
+// that it is no error even where the shared field's top bit is set.
 pub fn place_own_tops(
     counts: &[u8; 256],
     span: Span,
@@ -97,4 +100,5 @@ pub fn place_own_tops(
             at += width;
         }
     }
+    own_tops[LOST_HOUR as usize] = 0;
 }

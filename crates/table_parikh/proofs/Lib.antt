@@ -4,4 +4,4 @@ pub mod Parikh
 pub mod Letters
 pub mod Spans
 pub mod Excess
-pub mod Allowed
+pub mod Lost

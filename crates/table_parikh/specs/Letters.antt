@@ -4,7 +4,8 @@ use mathlib.Core.Bool.{Bool, false}
 use mathlib.Core.List.{List, [], _∷_}
 use Prim.Native.Nat.{ℕ, suc, _≤_, _<_, min, max}
 use lib.ListN.{length, getD}
-use Rattle.jumbled.specs.Match.{cc, occurs}
+use Rattle.jumbled.specs.Match.{cc}
+use Rattle.jumbled.specs.Steps.{passes}
 use Rattle.table_parikh.specs.declared.Span.{Span}
 
 -- The smallest byte of P, 256 where P has none
@@ -25,7 +26,7 @@ pub record Spanned (P : List ℕ) (r : Span) : Type 0 where
   pub below : (c : ℕ) → c < r .low → cc P c ≡ 0
   pub above : (c : ℕ) → r .past ≤ c → cc P c ≡ 0
 
--- A table of 256 truth values that says of each byte whether P has it
+-- A table of 256 truth values that says of each byte whether P has it, or it is a lost hour
 pub record Occurring (P : List ℕ) (table : List Bool) : Type 0 where
   pub sized : length table ≡ 256
-  pub tells : (c : ℕ) → c < 256 → getD table c false ≡ occurs P c
+  pub tells : (c : ℕ) → c < 256 → getD table c false ≡ passes P c

@@ -2,8 +2,12 @@
 ghost use mathlib.Core.Path.{_≡_};
 ghost use Prim.Native.Nat.{_≤_};
 ghost use lib.ListN.{length};
-ghost use Rattle.table_parikh.specs.Table.{parikh, withinCounts};
+ghost use Rattle.jumbled.specs.Match.{cc, lostHour};
+ghost use Rattle.table_parikh.specs.Table.{parikh, AllowedBy, withinCounts};
 ghost use Rattle.table_parikh.specs.Letters.{Spanned, Occurring};
+
+// The byte of an hour with no reading, `-`, which is no evidence (document 02, T-07).
+pub const LOST_HOUR: u8 = 45;
 
 // How often each byte occurs in a pattern or a window: document 01, "What a match is", cc(U, c). No counter passes 64, so a byte holds each.
 pub fn counts(s: &[u8]) -> [u8; 256]
@@ -18,6 +22,26 @@ pub fn counts(s: &[u8]) -> [u8; 256]
         i += 1;
     }
     counts
+}
+
+// How many of the bytes are lost hours.
+pub fn lost_hours(bytes: &[u8]) -> usize
+    ensures { λ r. ⌜ r ≡ cc (now (bytes .entry)) lostHour ⌝ }
+{
+    let mut lost = 0;
+    for i in 0..bytes.len() {
+        lost += (bytes[i] == LOST_HOUR) as usize;
+    }
+    lost
+}
+
+// How often a window may have each byte, by the pattern's counts: as often as the pattern has it, and a lost hour more often than a window has bytes.
+pub fn allowances(counts: &[u8; 256]) -> [u8; 256]
+    ensures { λ r. ⌜ AllowedBy (now (counts .entry)) r ⌝ }
+{
+    let mut allowed = *counts;
+    allowed[LOST_HOUR as usize] = 255;
+    allowed
 }
 
 // The bytes from `low` up to the one before `past`.
@@ -44,11 +68,12 @@ pub fn span_of(pattern: &[u8]) -> Span
     Span { low, past }
 }
 
-// Which bytes the pattern has.
+// Which bytes the pattern has; a lost hour is taken for one of them (document 02, T-07).
 pub fn occurring(pattern: &[u8]) -> [bool; 256]
     ensures { λ r. ⌜ Occurring (now (pattern .entry)) r ⌝ }
 {
     let mut occurs = [false; 256];
+    occurs[LOST_HOUR as usize] = true;
     for i in 0..pattern.len() {
         let byte = pattern[i] as usize;
         occurs[byte] = true;
@@ -56,7 +81,7 @@ pub fn occurring(pattern: &[u8]) -> [bool; 256]
     occurs
 }
 
-// Whether no byte occurs in the window more often than the counts allow. The first byte too many ends it.
+// Whether no byte occurs in the window more often than it may. The first byte too many ends it.
 pub fn within(allowed: &[u8; 256], window: &[u8]) -> bool
     requires { ⌜ length (now window) ≤ 64 ⌝ }
     ensures { λ r. ⌜ r ≡ withinCounts (now (allowed .entry)) (now (window .entry)) ⌝ }

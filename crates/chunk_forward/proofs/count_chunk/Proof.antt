@@ -10,40 +10,47 @@ use Rattle.chunk_seam.proofs.Prepared.{onward}
 use Rattle.loop_forward.proofs.Progress.{every-listed}
 use Rattle.loop_count.specs.declared.Counted.{Counted}
 use Rattle.loop_count.specs.Counting.{CountSearchable}
-use Rattle.chunk_forward.specs.Starting.{ForwardReady}
+use Rattle.table_parikh.specs.Table.{allowances}
+use Rattle.chunk_seam.specs.Joined.{Prepared}
 use Rattle.chunk_forward.specs.Counting.{CountableSeam, CountedSeam}
 use Rattle.chunk_forward.proofs.Forwards.{count-few, startable, prefix-on, forward-one, forward-two, forward-fitting, forward-places, forward-inspections}
 use Rattle.chunk_forward.proofs.count_chunk.Statement.{statement}
 use Rattle.chunk_forward.proofs.count_chunk.Tie as tie
 
 -- what the searches of the seam and of the chunk are given
-module _ {P counts seam chunk : List ℕ} {split : Split} {list : List ℕ} (ready : ForwardReady P counts seam chunk split list) where
-  abbrev for-seam : CountableSeam (length P) counts seam (split .«over_tail») list
-  for-seam = record { of = P; pattern-counts = ready .pattern-counts; startable = startable (ready .prepared) }
+module _ (P : List ℕ) {allowed seam chunk : List ℕ} {split : Split} {list : List ℕ} (prepared : Prepared (length P) seam chunk split list) (allows : allowed ≡ allowances P) where
+  abbrev for-seam : CountableSeam (length P) allowed seam (split .«over_tail») list
+  for-seam = record { of = P; allows = allows; startable = startable prepared }
 
   abbrev for-chunk : {k : ℕ} {middle : List ℕ} {r : Counted} → CountedSeam P (length P) k seam (split .«over_tail») list middle r
-      → (split .«over_chunk» .end ≡ 0 → ⊥) → CountSearchable (length P) counts chunk (r .sliding) (onward split (split .«over_chunk» .first) (r .at))
+      → (split .«over_chunk» .end ≡ 0 → ⊥) → CountSearchable (length P) allowed chunk (r .sliding) (onward split (split .«over_chunk» .first) (r .at))
   for-chunk {k} one some =
       record {
         of = P;
-        pattern-counts = ready .pattern-counts;
-        fitting = forward-fitting (ready .prepared) (countJudged P k) (one .listed);
-        state = rw (prefix-on (ready .prepared) some) at (one .state);
+        allows = allows;
+        fitting = forward-fitting prepared (countJudged P k) (one .listed);
+        state = rw (prefix-on prepared some) at (one .state);
       }
 
--- the arguments, where the seam was searched
-abbrev start-of : tie.After-count-seam → tie.Start
-start-of s = s .before .before .before .before .before .before
+-- the table of the pattern's allowances, where it is made and where the seam was searched
+abbrev start-of : tie.After-allowances → tie.Start
+start-of a = a .before .before .before .before .before
+
+allowed-by : (a : tie.After-allowances) → a .allowances .result ≡ allowances (start-of a .args .pattern .now)
+allowed-by a = a .allowances .ensures (start-of a .args .pattern .now) (start-of a .pre .pattern-counts)
+
+abbrev table-of : tie.After-count-seam → tie.After-allowances
+table-of s = s .before .before .before
 
 -- the seam's search, where the chunk is to be searched
 abbrev seam-of : tie.After-count-windows-arg → tie.After-count-seam
-seam-of c = c .before .before .before .before .before .before
+seam-of c = c .before .before .before .before .before .before .before
 
 abbrev judged : tie.Start → List ℕ → Judged
 judged start = countJudged (start .args .pattern .now) (start .args .k)
 
 count-seam-requires : tie.Need-count-seam-requires
-count-seam-requires c κs = for-seam (c .before .before .before .before .before .pre)
+count-seam-requires c κs = let table = c .before .before in for-seam (start-of table .args .pattern .now) (start-of table .pre .prepared) (allowed-by table)
 
 same-length : tie.Need-same-length
 same-length c = c .before .before .before .before .count-seam .kept .1 .1 .1 .1 .1 .0
@@ -51,27 +58,31 @@ same-length c = c .before .before .before .before .count-seam .kept .1 .1 .1 .1 
 returns : tie.Need-returns
 returns c =
     let s : tie.After-count-seam = c .before .before .before .before in
-    let start = start-of s in
-    forward-one (start .pre .prepared) (judged start) (s .count-seam .ensures (for-seam (start .pre)) .listed) (c .if1 .taken)
+    let start = start-of (table-of s) in
+    let prepared = start .pre .prepared in
+    forward-one prepared (judged start) (s .count-seam .ensures (for-seam (start .args .pattern .now) prepared (allowed-by (table-of s))) .listed) (c .if1 .taken)
 
 count-windows-requires : tie.Need-count-windows-requires
 count-windows-requires c κs =
     let s : tie.After-count-seam = seam-of c in
-    let ready = start-of s .pre in
-    for-chunk ready (s .count-seam .ensures (for-seam ready)) (c .before .before .if1 .left)
+    let P = start-of (table-of s) .args .pattern .now in
+    let prepared = start-of (table-of s) .pre .prepared in
+    let allows = allowed-by (table-of s) in
+    for-chunk P prepared allows (s .count-seam .ensures (for-seam P prepared allows)) (c .before .before .before .if1 .left)
 
 add-inspections : tie.Need-add-inspections
 add-inspections c =
     let windows : tie.After-count-windows = c .before .before .before .before in
     let s : tie.After-count-seam = seam-of (windows .before) in
-    let start = start-of s in
-    let ready = start .pre in
-    let one = s .count-seam .ensures (for-seam ready) in
-    let two = windows .count-windows .ensures (for-chunk ready one (windows .before .before .before .if1 .left)) in
+    let start = start-of (table-of s) in
+    let prepared = start .pre .prepared in
+    let allows = allowed-by (table-of s) in
+    let one = s .count-seam .ensures (for-seam (start .args .pattern .now) prepared allows) in
+    let two = windows .count-windows .ensures (for-chunk (start .args .pattern .now) prepared allows one (windows .before .before .before .before .if1 .left)) in
     record {
       fits =
-          forward-inspections (ready .prepared) (judged start) (one .listed)
-          (every-listed (two .searched) (forward-places (ready .prepared) (judged start) (one .listed)))
+          forward-inspections prepared (judged start) (one .listed)
+          (every-listed (two .searched) (forward-places prepared (judged start) (one .listed)))
           (count-few (start .args .pattern .now) (start .args .k));
     }
 
@@ -84,17 +95,21 @@ returns-2 : tie.Need-returns-2
 returns-2 c =
     let windows : tie.After-count-windows = c .before .before .before .before in
     let s : tie.After-count-seam = seam-of (windows .before) in
-    let start = start-of s in
-    let ready = start .pre in
-    let one = s .count-seam .ensures (for-seam ready) in
-    let two = windows .count-windows .ensures (for-chunk ready one (windows .before .before .before .if1 .left)) in
-    forward-two (ready .prepared) (judged start) (one .listed)
-    (every-listed (two .searched) (forward-places (ready .prepared) (judged start) (one .listed)))
+    let start = start-of (table-of s) in
+    let prepared = start .pre .prepared in
+    let allows = allowed-by (table-of s) in
+    let one = s .count-seam .ensures (for-seam (start .args .pattern .now) prepared allows) in
+    let two = windows .count-windows .ensures (for-chunk (start .args .pattern .now) prepared allows one (windows .before .before .before .before .if1 .left)) in
+    forward-two prepared (judged start) (one .listed) (every-listed (two .searched) (forward-places prepared (judged start) (one .listed)))
+
+allowances-requires : tie.Need-allowances-requires
+allowances-requires c κs = tt
 
 pub count-chunk-spec : {M : Type 1} → statement M
 count-chunk-spec =
     tie.close
     (tie.spec
+    allowances-requires
     count-seam-requires
     same-length
     returns

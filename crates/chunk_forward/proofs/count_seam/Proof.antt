@@ -20,7 +20,7 @@ module _ {m : ℕ} {allowed T : List ℕ} {range : Range} {list : List ℕ} (giv
   for-start =
       record {
         of = given .of;
-        pattern-counts = given .pattern-counts;
+        allows = given .allows;
         some = given .startable .fitting .some;
         short = given .startable .fitting .short;
         enough = given .startable .enough;
@@ -30,7 +30,7 @@ module _ {m : ℕ} {allowed T : List ℕ} {range : Range} {list : List ℕ} (giv
   for-windows started =
       record {
         of = given .of;
-        pattern-counts = given .pattern-counts;
+        allows = given .allows;
         fitting = given .startable .fitting;
         state = rw (given .startable .from-first) (started .state);
       }

@@ -12,41 +12,44 @@ use Rattle.chunk_seam.proofs.Prepared.{onward}
 use Rattle.loop_forward.proofs.Progress.{every-listed}
 use Rattle.loop_hcam.specs.declared.Hashed.{Hashed}
 use Rattle.loop_hcam.specs.Hashing.{HcamSearchable}
-use Rattle.chunk_forward.specs.Starting.{ForwardReady}
+use Rattle.table_parikh.specs.Table.{allowances}
+use Rattle.chunk_seam.specs.Joined.{Prepared}
 use Rattle.chunk_forward.specs.Hashing.{HashableSeam, HashedSeam}
 use Rattle.chunk_forward.proofs.Forwards.{hcam-few, startable, prefix-on, forward-one, forward-two, forward-fitting, forward-places, forward-inspections}
 use Rattle.chunk_forward.proofs.hcam_chunk.Statement.{statement}
 use Rattle.chunk_forward.proofs.hcam_chunk.Tie as tie
 
 -- what the searches of the seam and of the chunk are given
-module _ {P counts seam chunk : List ℕ} {split : Split} {list : List ℕ} (ready : ForwardReady P counts seam chunk split list) {values : List ℕ}
-    {target : Target} (tabled : HeapTabled P values target) where
-  abbrev for-seam : HashableSeam (length P) counts values target seam (split .«over_tail») list
-  for-seam =
-      record { of = P; sized = refl; pattern-counts = ready .pattern-counts; tabled = tabled; startable = startable (ready .prepared) }
+module _ {P allowed seam chunk : List ℕ} {split : Split} {list : List ℕ} (prepared : Prepared (length P) seam chunk split list) (allows : allowed ≡ allowances P)
+    {values : List ℕ} {target : Target} (tabled : HeapTabled P values target) where
+  abbrev for-seam : HashableSeam (length P) allowed values target seam (split .«over_tail») list
+  for-seam = record { of = P; sized = refl; allows = allows; tabled = tabled; startable = startable prepared }
 
   abbrev for-chunk : {middle : List ℕ} {r : Hashed} → HashedSeam P (length P) seam (split .«over_tail») list middle r
-      → (split .«over_chunk» .end ≡ 0 → ⊥) → HcamSearchable (length P) counts values target chunk (r .summed) (onward split (split .«over_chunk» .first) (r .at))
+      → (split .«over_chunk» .end ≡ 0 → ⊥) → HcamSearchable (length P) allowed values target chunk (r .summed) (onward split (split .«over_chunk» .first) (r .at))
   for-chunk one some =
       record {
         of = P;
         sized = refl;
-        pattern-counts = ready .pattern-counts;
+        allows = allows;
         tabled = tabled;
-        fitting = forward-fitting (ready .prepared) (hcamJudged P) (one .listed);
-        state = rw (prefix-on (ready .prepared) some) at (one .state);
+        fitting = forward-fitting prepared (hcamJudged P) (one .listed);
+        state = rw (prefix-on prepared some) at (one .state);
       }
 
--- the arguments and the table, where the seam was searched
-abbrev start-of : tie.After-hcam-seam → tie.Start
-start-of s = s .before .before .before .before .before .before .before .before .before
+-- the tables of the pattern, where they are made and where the seam was searched
+abbrev start-of : tie.After-allowances → tie.Start
+start-of a = a .before .before .before .before .before .before .before
 
-abbrev table-of : tie.After-hcam-seam → tie.After-fill-values
-table-of s = s .before .before .before
+allowed-by : (a : tie.After-allowances) → a .allowances .result ≡ allowances (start-of a .args .pattern .now)
+allowed-by a = a .allowances .ensures (start-of a .args .pattern .now) (start-of a .pre .pattern-counts)
+
+abbrev tables-of : tie.After-hcam-seam → tie.After-allowances
+tables-of s = s .before .before .before .before
 
 -- the seam's search, where the chunk is to be searched
 abbrev seam-of : tie.After-hcam-windows-arg → tie.After-hcam-seam
-seam-of c = c .before .before .before .before .before .before .before
+seam-of c = c .before .before .before .before .before .before .before .before
 
 abbrev judged : tie.Start → List ℕ → Judged
 judged start = hcamJudged (start .args .pattern .now)
@@ -55,7 +58,9 @@ fill-values-requires : tie.Need-fill-values-requires
 fill-values-requires c κs = record { pattern-counts = c .before .before .before .before .before .pre .pattern-counts; empty = refl }
 
 hcam-seam-requires : tie.Need-hcam-seam-requires
-hcam-seam-requires c κs = for-seam (c .before .before .before .before .before .before .before .before .pre) (c .before .before .fill-values .ensures)
+hcam-seam-requires c κs =
+    let tables = c .before .before .before in
+    for-seam (start-of tables .pre .prepared) (allowed-by tables) (tables .before .fill-values .ensures)
 
 same-length : tie.Need-same-length
 same-length c = c .before .before .before .before .hcam-seam .kept .1 .1 .1 .1 .1 .1 .0
@@ -63,31 +68,33 @@ same-length c = c .before .before .before .before .hcam-seam .kept .1 .1 .1 .1 .
 returns : tie.Need-returns
 returns c =
     let s : tie.After-hcam-seam = c .before .before .before .before in
-    let start = start-of s in
-    let tabled = table-of s .fill-values .ensures in
-    forward-one (start .pre .prepared) (judged start) (s .hcam-seam .ensures (for-seam (start .pre) tabled) .listed) (c .if1 .taken)
+    let tables = tables-of s in
+    let prepared = start-of tables .pre .prepared in
+    forward-one prepared (judged (start-of tables)) (s .hcam-seam .ensures (for-seam prepared (allowed-by tables) (tables .before .fill-values .ensures)) .listed) (c .if1 .taken)
 
 hcam-windows-requires : tie.Need-hcam-windows-requires
 hcam-windows-requires c κs =
     let s : tie.After-hcam-seam = seam-of c in
-    let ready = start-of s .pre in
-    let tabled = table-of s .fill-values .ensures in
-    for-chunk ready tabled (s .hcam-seam .ensures (for-seam ready tabled)) (c .before .before .before .if1 .left)
+    let tables = tables-of s in
+    let prepared = start-of tables .pre .prepared in
+    let tabled = tables .before .fill-values .ensures in
+    for-chunk prepared (allowed-by tables) tabled (s .hcam-seam .ensures (for-seam prepared (allowed-by tables) tabled)) (c .before .before .before .before .if1 .left)
 
 add-inspections : tie.Need-add-inspections
 add-inspections c =
     let windows : tie.After-hcam-windows = c .before .before .before .before in
     let s : tie.After-hcam-seam = seam-of (windows .before) in
-    let start = start-of s in
-    let ready = start .pre in
-    let tabled = table-of s .fill-values .ensures in
-    let one = s .hcam-seam .ensures (for-seam ready tabled) in
-    let two = windows .hcam-windows .ensures (for-chunk ready tabled one (windows .before .before .before .before .if1 .left)) in
+    let tables = tables-of s in
+    let start = start-of tables in
+    let prepared = start .pre .prepared in
+    let tabled = tables .before .fill-values .ensures in
+    let one = s .hcam-seam .ensures (for-seam prepared (allowed-by tables) tabled) in
+    let two = windows .hcam-windows .ensures (for-chunk prepared (allowed-by tables) tabled one (windows .before .before .before .before .before .if1 .left)) in
     record {
       fits =
-          forward-inspections (ready .prepared) (judged start) (one .listed)
-          (every-listed (two .searched) (forward-places (ready .prepared) (judged start) (one .listed)))
-          (hcam-few (start .args .pattern .now) refl (ready .prepared .joinable .short));
+          forward-inspections prepared (judged start) (one .listed)
+          (every-listed (two .searched) (forward-places prepared (judged start) (one .listed)))
+          (hcam-few (start .args .pattern .now) refl (prepared .joinable .short));
     }
 
 same-length-2 : tie.Need-same-length-2
@@ -99,19 +106,23 @@ returns-2 : tie.Need-returns-2
 returns-2 c =
     let windows : tie.After-hcam-windows = c .before .before .before .before in
     let s : tie.After-hcam-seam = seam-of (windows .before) in
-    let start = start-of s in
-    let ready = start .pre in
-    let tabled = table-of s .fill-values .ensures in
-    let one = s .hcam-seam .ensures (for-seam ready tabled) in
-    let two = windows .hcam-windows .ensures (for-chunk ready tabled one (windows .before .before .before .before .if1 .left)) in
-    forward-two (ready .prepared) (judged start) (one .listed)
-    (every-listed (two .searched) (forward-places (ready .prepared) (judged start) (one .listed)))
+    let tables = tables-of s in
+    let start = start-of tables in
+    let prepared = start .pre .prepared in
+    let tabled = tables .before .fill-values .ensures in
+    let one = s .hcam-seam .ensures (for-seam prepared (allowed-by tables) tabled) in
+    let two = windows .hcam-windows .ensures (for-chunk prepared (allowed-by tables) tabled one (windows .before .before .before .before .before .if1 .left)) in
+    forward-two prepared (judged start) (one .listed) (every-listed (two .searched) (forward-places prepared (judged start) (one .listed)))
+
+allowances-requires : tie.Need-allowances-requires
+allowances-requires c κs = tt
 
 pub hcam-chunk-spec : {M : Type 1} → statement M
 hcam-chunk-spec =
     tie.close
     (tie.spec
     fill-values-requires
+    allowances-requires
     hcam-seam-requires
     same-length
     returns

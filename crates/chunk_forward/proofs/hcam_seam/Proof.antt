@@ -31,7 +31,7 @@ module _ {m : ℕ} {allowed values : List ℕ} {target : Target} {T : List ℕ} 
       record {
         of = given .of;
         sized = given .sized;
-        pattern-counts = given .pattern-counts;
+        allows = given .allows;
         tabled = given .tabled;
         fitting = given .startable .fitting;
         state = rw (given .startable .from-first) (started .state);

@@ -7,11 +7,11 @@ use Prim.Native.Nat.{ℕ, _≤_, _<_, _-_, _+_, _^_}
 use native.Mathlib.Omega.{arith}
 use mir.Val.{boolByte}
 use lib.Dec.{leb}
-use lib.ListN.{getD, set}
+use lib.ListN.{length, getD, set, drop, length-take}
 use borrow.Author.Tests.{ltb-true, ltb-false}
 use Rattle.jumbled.specs.Match.{window, windowPrefix}
 use Rattle.jumbled.specs.Steps.{countJudged}
-use Rattle.table_parikh.specs.Table.{parikh}
+use Rattle.table_parikh.specs.Table.{allowances}
 use Rattle.lent.specs.declared.Range.{Range}
 use Rattle.loop_forward.specs.Counting.{Counting}
 use Rattle.loop_forward.proofs.Progress.{Progress, progress-none, Turn, whole, last-byte, first-byte, both-bytes, by-last, by-first, prefix-bytes, prefix-short, has-room, has-number, has-inspections, turn-listed, turn-skipped, ended}
@@ -29,7 +29,7 @@ record Running (P : List ℕ) (m k : ℕ) (T : List ℕ) (range : Range) (before
 -- and in a turn of the loop
 record Counts (P allowed : List ℕ) (m k : ℕ) (T : List ℕ) (range : Range) (before after counts : List ℕ) (windowExcess at inspections s : ℕ) : Type 0 where
   turn : Turn (countJudged P k) m T range before after at inspections s
-  known : allowed ≡ parikh P
+  known : allowed ≡ allowances P
   state : Counting P (windowPrefix m T s) counts windowExcess
 
 -- the counters once a byte enters or leaves, and what the excess gains or loses
@@ -50,8 +50,11 @@ module _ {P allowed : List ℕ} {m k : ℕ} {T : List ℕ} {range : Range} {befo
   abbrev first : ℕ
   first = getD T s 0
 
+  few : (i : ℕ) → length (windowPrefix m T i) < 255
+  few i = omega (arith, length-take (m - 1) (drop i T), here .turn .fitting .short)
+
   over-window : Counting P (window m T s) (more counts entering) (windowExcess + spent allowed counts entering)
-  over-window = rw (by-last (here .turn)) (counting-more (here .state) (here .known) (last-byte (here .turn)))
+  over-window = rw (by-last (here .turn)) (counting-more (here .state) (here .known) (few s) (last-byte (here .turn)))
 
   from-first : Counting P (first ∷ windowPrefix m T (s + 1)) (more counts entering) (windowExcess + spent allowed counts entering)
   from-first = rw (by-first (here .turn)) at over-window
@@ -80,7 +83,7 @@ module _ {P allowed : List ℕ} {m k : ℕ} {T : List ℕ} {range : Range} {befo
 
   kept : Counting P (windowPrefix m T (s + 1)) (less (more counts entering) first)
       (windowExcess + spent allowed counts entering - spent allowed (less (more counts entering) first) first)
-  kept = counting-less from-first (first-byte (here .turn)) (here .known)
+  kept = counting-less from-first (first-byte (here .turn)) (here .known) (few (s + 1))
 
 abbrev Inv-loop : tie.InvT-loop
 Inv-loop m allowed k text list₀ base end counts₀ windowExcess₀ s₀ at₀ inspections₀ list counts windowExcess s at inspections =
@@ -116,7 +119,7 @@ counts-for c given =
             in-loop = c .before .before .loop-test .taken;
             place = omega (arith, ltb-true, c .before .if1 .taken);
           };
-      known = given .pattern-counts;
+      known = given .allows;
       state = running .state;
     }
 
@@ -224,7 +227,7 @@ cast-excess-2 c = tt
 sub-excess : tie.Need-sub-excess Inv-loop μ-loop
 sub-excess c =
     let here = counts-here (c .before .before .before .before) in
-    excess-there (from-first here) (first-byte (here .turn)) (here .known)
+    excess-there (from-first here) (first-byte (here .turn)) (here .known) (few here (c .before .before .before .before .before .before .before .loop .s + 1))
 
 add-s : tie.Need-add-s Inv-loop μ-loop
 add-s c = omega arith

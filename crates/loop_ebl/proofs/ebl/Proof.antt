@@ -10,7 +10,7 @@ use borrow.Author.Tests.{ltb-true, ltb-false, not-true, not-false}
 use Rattle.jumbled.specs.Match.{matches, window as windowOf}
 use Rattle.jumbled.specs.Steps.{eblScan}
 use Rattle.jumbled.proofs.Windows.{window-part, window-whole}
-use Rattle.table_parikh.proofs.Allowed.{within-matches}
+use Rattle.table_parikh.proofs.Excess.{within-matches}
 use Rattle.loop_backward.proofs.Windows.{Going, going-first, going-end}
 use Rattle.loop_ebl.specs.Reading.{EblTabled}
 use Rattle.loop_ebl.proofs.Reading.{Window, Inner, told, window-upto, inner-first, inner-on, inner-stop, inner-listed, inner-passed}
@@ -83,6 +83,17 @@ bounds c =
       room = omega (arith, w .place, w .going .same-length);
     }
 
+-- the window that is verified is short
+within-requires : tie.Need-within-requires Inv-loop μ-loop Inv-windows μ-windows
+within-requires c κs =
+    let start = c .before .before .before .before .before .before .before .before in
+    omega (
+      arith,
+      ap length (window-part (start .args .m) (start .args .text .now) (c .before .before .loop .s)),
+      window-whole (start .args .m) (start .args .text .now) (c .before .before .loop .s) (bounds (c .before) .whole),
+      start .pre .0 .short,
+    )
+
 -- the verification's answer tells whether it matches
 verdict : (c : tie.After-within Inv-loop μ-loop Inv-windows μ-windows) (tables : Tables (c .before .before .before .before .before .before .before .before .before))
     → {t : Bool} → c .within .result ≡ t
@@ -91,7 +102,7 @@ verdict c tables e =
     let read = c .before .before in
     let args = read .before .before .before .before .before .before .before .args in
     rw (tables .sized, ← bounds read .start, ← window-part (args .m) (args .text .now) (read .before .loop .s))
-    (sym (within-matches (tables .of) _ (tables .pattern-counts)) ∙ sym (c .within .ensures) ∙ e)
+    (sym (within-matches (tables .of) _ (omega (arith, within-requires (c .before) (c .within .lifetimes))) (tables .allows)) ∙ sym (c .within .ensures) ∙ e)
 
 windows-holds : tie.Need-windows-holds Inv-loop μ-loop Inv-windows μ-windows
 windows-holds c tables = going-first _ _ _ _ _ (c .before .before .pre .0 .ordered)
@@ -196,16 +207,6 @@ part-within-start c = omega arith
 
 part-within-end : tie.Need-part-within-end Inv-loop μ-loop Inv-windows μ-windows
 part-within-end c = omega (arith, bounds c .whole)
-
-within-requires : tie.Need-within-requires Inv-loop μ-loop Inv-windows μ-windows
-within-requires c κs =
-    let start = c .before .before .before .before .before .before .before .before in
-    omega (
-      arith,
-      ap length (window-part (start .args .m) (start .args .text .now) (c .before .before .loop .s)),
-      window-whole (start .args .m) (start .args .text .now) (c .before .before .loop .s) (bounds (c .before) .whole),
-      start .pre .0 .short,
-    )
 
 position-requires : tie.Need-position-requires Inv-loop μ-loop Inv-windows μ-windows
 position-requires c κs = omega (arith, bounds (c .before .before .before) .numbered)

@@ -95,7 +95,7 @@ loop-again c =
       state =
           λ given.
           rw (take-more T (loop .i) (omega arith)) at
-          (counting-more (loop .inv .state given) (given .pattern-counts) (byte (c .before)));
+          (counting-more (loop .inv .state given) (given .allows) (omega (arith, given .short, length-take (loop .i) T)) (byte (c .before)));
       inspected = omega (arith, loop .inv .inspected);
     }
 

@@ -1,4 +1,4 @@
--- `loop_forward::hcam_start` meets its contract: the bytes summed are the first m - 1.
+-- `loop_forward::hcam_start` meets its contract: the bytes summed, and those looked through for lost hours, are the first m - 1.
 use mathlib.Core.Path.{sym, _∙_}
 use Prim.Native.Nat.{_-_}
 use lib.ListN.{take}
@@ -20,20 +20,24 @@ slice-aggregate-entering c =
 sum-of-requires : tie.Need-sum-of-requires
 sum-of-requires c κs = search needs
 
+lost-hours-requires : tie.Need-lost-hours-requires
+lost-hours-requires c κs = search needs
+
 returns : tie.Need-returns
 returns c =
-    let start = c .before .before .before in
+    let start = c .before .before .before .before in
     λ given.
     record {
       state =
           record {
             sums =
-                c .sum-of .ensures
+                c .before .sum-of .ensures
                 ∙ table-sum (given .of) (given .tabled) (take (start .args .m - 1) (start .args .text .now))
-                (bytes-take (start .args .m - 1) (start .args .text .now) (record { below = λ i. c .before .before .shared-slice-known .given i .fits }));
+                (bytes-take (start .args .m - 1) (start .args .text .now) (record { below = λ i. c .before .before .before .shared-slice-known .given i .fits }));
+            holds-lost = c .lost-hours .ensures;
           };
       inspected = length-take-le (start .args .m - 1) (start .args .text .now) (given .enough);
     }
 
 pub hcam-start-spec : {M : Type 1} → statement M
-hcam-start-spec = tie.close (tie.spec sub-last slice-aggregate-entering sum-of-requires returns)
+hcam-start-spec = tie.close (tie.spec sub-last slice-aggregate-entering sum-of-requires lost-hours-requires returns)

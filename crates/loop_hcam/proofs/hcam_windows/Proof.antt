@@ -1,85 +1,94 @@
--- `loop_hcam::hcam_windows` meets its contract. The loop's invariant: what the windows before s yield is listed, and the sum is that of the
--- window at s but its last byte.
-use mathlib.Core.Path.{_≡_, sym, ap, _∙_}
-use mathlib.Core.Bool.{Bool, true, false, not}
+-- `loop_hcam::hcam_windows` meets its contract. The loop's invariant: what the windows before s yield is listed, and the sum and the lost hours are
+-- those of the window at s but its last byte.
+use mathlib.Core.Path.{_≡_, refl, sym, ap, _∙_}
+use mathlib.Core.Bool.{Bool, true, false, cond, _||_}
 use mathlib.Core.List.{List}
 use mathlib.Core.Logic.{_⊎_, inl, inr, ⊎-elim}
 use Prim.Native.Nat.{ℕ, _≤_, _<_, _-_, _+_, _%_, _^_}
+use native.Mathlib.Nat.{le-refl}
 use native.Mathlib.Omega.{arith}
-use lib.Dec.{eqb}
+use mir.Val.{boolByte}
+use lib.Dec.{ltb, eqb}
 use lib.ListN.{length, getD, set, take, drop, length-set}
-use borrow.Author.Tests.{eqb-true, eqb-false, not-true, not-false}
-use Rattle.jumbled.specs.Match.{matches, window, windowPrefix}
+use Rattle.jumbled.specs.Match.{lostHour, window, windowPrefix}
 use Rattle.jumbled.proofs.Windows.{window-part}
-use Rattle.jumbled.specs.Heap.{heapSum}
-use Rattle.jumbled.specs.Steps.{hcamJudged}
-use Rattle.table_parikh.proofs.Allowed.{within-matches}
+use Rattle.jumbled.specs.Steps.{verified, hcamJudged}
+use Rattle.jumbled.proofs.Positions.{hcam-verification}
+use Rattle.table_parikh.specs.Table.{allowances}
+use Rattle.table_parikh.proofs.Lost.{byte-le}
 use Rattle.table_heap.specs.declared.Target.{Target}
 use Rattle.table_heap.specs.Table.{HeapTabled}
 use Rattle.lent.specs.declared.Range.{Range}
-use Rattle.loop_forward.proofs.Progress.{Progress, progress-none, Turn, whole, last-byte, first-byte, both-bytes, by-last, by-first, whole-window, has-room, has-number, has-inspections, turn-listed, turn-skipped, ended}
+use Rattle.loop_forward.proofs.Progress.{Progress, progress-none, Turn, whole, last-byte, first-byte, both-bytes, by-last, by-first, whole-window, prefix-short, has-room, has-number, has-inspections, turn-listed, turn-skipped, ended}
 use Rattle.loop_forward.specs.Hashing.{Summing}
-use Rattle.loop_forward.proofs.Hashing.{summing-more, summing-less}
-use Rattle.loop_hcam.specs.Hashing.{HcamSearchable}
-use Rattle.loop_hcam.proofs.Judging.{judged-other, judged-exact, judged-verified}
+use Rattle.loop_forward.proofs.Hashing.{lost-few, lost-there, summing-more, summing-less}
+use Rattle.loop_hcam.specs.declared.Finding.{Finding}
+use Rattle.loop_hcam.specs.Hashing.{Finds, HcamSearchable}
+use Rattle.loop_hcam.proofs.Judging.{Rightly, judged-none, judged-found}
 use Rattle.loop_hcam.proofs.hcam_windows.Statement.{statement}
 use Rattle.loop_hcam.proofs.hcam_windows.Tie as tie
 
 -- What holds before the window at s
-record Running (P : List ℕ) (m : ℕ) (T : List ℕ) (range : Range) (before after : List ℕ) (sum at inspections s : ℕ) : Type 0 where
+record Running (P : List ℕ) (m : ℕ) (T : List ℕ) (range : Range) (before after : List ℕ) (sum lost at inspections s : ℕ) : Type 0 where
   progress : Progress (hcamJudged P) m T range before after at inspections s
-  state : Summing P (windowPrefix m T s) sum
+  state : Summing P (windowPrefix m T s) (record { sum = sum; lost = lost })
 
 -- and in a turn of the loop
-record Sums (P values : List ℕ) (target : Target) (m : ℕ) (T : List ℕ) (range : Range) (before after : List ℕ) (sum at inspections s : ℕ) : Type 0 where
+record Sums (P allowed values : List ℕ) (target : Target) (m : ℕ) (T : List ℕ) (range : Range) (before after : List ℕ) (sum lost at inspections s : ℕ) : Type 0 where
   turn : Turn (hcamJudged P) m T range before after at inspections s
   sized : length P ≡ m
+  allows : allowed ≡ allowances P
   tabled : HeapTabled P values target
-  state : Summing P (windowPrefix m T s) sum
+  state : Summing P (windowPrefix m T s) (record { sum = sum; lost = lost })
 
--- what is found of the window: whether it is listed, and the inspections with its own
-record Verdict (P W : List ℕ) (inspections : ℕ) (listed : Bool) (inspected : ℕ) : Type 0 where
-  right : listed ≡ hcamJudged P W .listed
-  counted : inspected ≡ inspections + (1 + hcamJudged P W .verification)
-  bounded : inspected ≤ inspections + 65
-
-module _ {P values : List ℕ} {target : Target} {m : ℕ} {T : List ℕ} {range : Range} {before after : List ℕ} {sum at inspections s : ℕ}
-    (here : Sums P values target m T range before after sum at inspections s) {summed : ℕ}
+module _ {P allowed values : List ℕ} {target : Target} {m : ℕ} {T : List ℕ} {range : Range} {before after : List ℕ} {sum lost at inspections s : ℕ}
+    (here : Sums P allowed values target m T range before after sum lost at inspections s) {summed : ℕ}
     (added : summed ≡ (sum + getD values (getD T (s + m - 1) 0) 0) % 2 ^ 64) where
-  over-window : Summing P (window m T s) summed
+  -- the lost hours of the window
+  abbrev held : ℕ
+  held = lost + boolByte (eqb (getD T (s + m - 1) 0) lostHour)
+
+  over-window : Summing P (window m T s) (record { sum = summed; lost = held })
   over-window = rw (by-last (here .turn)) (summing-more (here .tabled .entries) (last-byte (here .turn)) (here .state) added)
 
-  kept : {rest : ℕ} → rest < 2 ^ 64 → (rest + getD values (getD T s 0) 0) % 2 ^ 64 ≡ summed → Summing P (windowPrefix m T (s + 1)) rest
+  kept : {rest : ℕ} → rest < 2 ^ 64 → (rest + getD values (getD T s 0) 0) % 2 ^ 64 ≡ summed
+      → Summing P (windowPrefix m T (s + 1)) (record { sum = rest; lost = held - boolByte (eqb (getD T s 0) lostHour) })
   kept = summing-less (here .tabled .entries) (first-byte (here .turn)) (rw (by-first (here .turn)) at over-window)
 
-  candidate : eqb summed (target .sum) ≡ true → heapSum P (window m T s) ≡ heapSum P P
-  candidate e = sym (over-window .sums) ∙ eqb-true summed (target .sum) e ∙ here .tabled .own-sum
+  there : boolByte (eqb (getD T s 0) lostHour) ≤ held
+  there = lost-there (rw (by-first (here .turn)) at over-window)
 
-  module _ {listed : Bool} {inspected : ℕ} where
-    found-verified : eqb summed (target .sum) ≡ true → not (target .exact) ≡ true → listed ≡ matches P 0 (take (s + m - s) (drop s T))
-        → inspected ≡ inspections + 1 + m → Verdict P (window m T s) inspections listed inspected
-    found-verified e x answer tally =
-        let part = window-part m T s in
-        let judged = judged-verified P (window m T s) (candidate e) (sym (here .tabled .exact) ∙ not-true (target .exact) x) in
-        record {
-          right = rw (judged, ← part) answer;
-          counted = rw judged (omega (arith, here .sized));
-          bounded = omega (arith, here .turn .fitting .short);
-        }
+  -- what the code finds of it is right: where it may match, and where it does not
+  found : (ltb 0 held || eqb summed (target .sum)) ≡ true → {r : Finding} → Finds allowed held (target .exact) (take (s + m - s) (drop s T)) r
+      → Rightly P (window m T s) (r .listed) (r .verification)
+  found may finds =
+      let size = whole-window (here .turn) in
+      judged-found (here .tabled) over-window (here .allows) (size ∙ sym (here .sized)) (omega (arith, size, here .turn .fitting .short)) may
+      (rw (window-part m T s) at finds)
 
-    found-exact : eqb summed (target .sum) ≡ true → not (target .exact) ≡ false → listed ≡ eqb summed (target .sum) → inspected ≡ inspections + 1
-        → Verdict P (window m T s) inspections listed inspected
-    found-exact e x answer tally =
-        let judged = judged-exact P (window m T s) (candidate e) (sym (here .tabled .exact) ∙ not-false (target .exact) x) in
-        record { right = rw judged (answer ∙ e); counted = rw judged tally; bounded = omega arith }
+  none : (ltb 0 held || eqb summed (target .sum)) ≡ false → Rightly P (window m T s) false 0
+  none may-not = judged-none (here .tabled) over-window may-not
 
-    found-none : eqb summed (target .sum) ≡ false → listed ≡ eqb summed (target .sum) → inspected ≡ inspections + 1 → Verdict P (window m T s) inspections listed inspected
-    found-none e answer tally =
-        let judged = judged-other P (window m T s) (λ h. eqb-false summed (target .sum) e (over-window .sums ∙ h ∙ sym (here .tabled .own-sum))) in
-        record { right = rw judged (answer ∙ e); counted = rw judged tally; bounded = omega arith }
+  -- so the search goes on: the window is listed, or it is not
+  module _ {listed : Bool} {verification : ℕ} (right : Rightly P (window m T s) listed verification) where
+    verification-small : verification ≤ 64
+    verification-small = omega (arith, right .verifies, hcam-verification P (window m T s), most (verified P (window m T s)))
+      where
+        most : (t : Bool) → cond t (length P) 0 ≤ 64
+        most true = omega (arith, here .sized, here .turn .fitting .short)
+        most false = omega arith
 
--- The loop goes on up to `end`, the range's end or, where the list is full from the start, its first window start; and while it does a
--- place is free
+    on-listed : listed ≡ true → {inspected : ℕ} → inspected ≡ inspections + 1 + verification
+        → Progress (hcamJudged P) m T range before (set after at (range .base + s)) (at + 1) inspected (s + 1)
+    on-listed yes-listed tally =
+        turn-listed (here .turn) _ (omega (arith, right .verifies)) (omega (arith, verification-small)) (sym (right .lists) ∙ yes-listed)
+
+    on-skipped : listed ≡ false → {inspected : ℕ} → inspected ≡ inspections + 1 + verification
+        → Progress (hcamJudged P) m T range before after at inspected (s + 1)
+    on-skipped not-listed tally =
+        turn-skipped (here .turn) _ (omega (arith, right .verifies)) (omega (arith, verification-small)) (sym (right .lists) ∙ not-listed)
+
+-- The loop goes on up to `end`, the range's end or, where the list is full, the next window start; and while it does a place is free
 record Bounded (range : Range) (list : List ℕ) (end at s : ℕ) : Type 0 where
   free : s < end → at < length list
   why : (end ≡ range .end) ⊎ (length list ≤ at)
@@ -91,12 +100,13 @@ bounded-end : {range : Range} {list : List ℕ} {end at s : ℕ} → Bounded ran
 bounded-end b h = ⊎-elim (λ e. inl (omega arith)) (λ full. inr full) (b .why)
 
 abbrev Inv-loop : tie.InvT-loop
-Inv-loop m allowed values target text range list₀ sum₀ s₀ at₀ inspections₀ end list sum s at inspections =
+Inv-loop m allowed values target text range list₀ sum₀ lost₀ s₀ at₀ inspections₀ end₀ list sum lost s at inspections end =
     Bounded range list end at s
-    × ((given : HcamSearchable m allowed values target text (record { sum = sum₀ }) range) → Running (given .of) m text range list₀ list sum at inspections s)
+    × ((given : HcamSearchable m allowed values target text (record { sum = sum₀; lost = lost₀ }) range)
+    → Running (given .of) m text range list₀ list sum lost at inspections s)
 
 abbrev μ-loop : tie.MeasureT-loop
-μ-loop m allowed values target text range list₀ sum₀ s₀ at₀ inspections₀ end list sum s at inspections = end - s
+μ-loop m allowed values target text range list₀ sum₀ lost₀ s₀ at₀ inspections₀ end₀ list sum lost s at inspections end = end - s
 
 -- the arguments, where the byte that enters is known
 abbrev start-of : tie.After-shared-slice-known2 Inv-loop μ-loop → tie.Start Inv-loop μ-loop
@@ -106,7 +116,7 @@ abbrev Here : tie.After-shared-slice-known2 Inv-loop μ-loop → List ℕ → Ty
 Here c P =
     let args = start-of c .args in
     let loop = c .before .before .loop in
-    Sums P (args .values .now) (args .target) (args .m) (args .text .now) (args .range) (args .list .now) (loop .list) (loop .sum) (loop .at)
+    Sums P (args .allowed .now) (args .values .now) (args .target) (args .m) (args .text .now) (args .range) (args .list .now) (loop .list) (loop .sum) (loop .lost) (loop .at)
     (loop .inspections) (loop .s)
 
 abbrev Given : tie.After-shared-slice-known2 Inv-loop μ-loop → Type 0
@@ -128,6 +138,7 @@ sums-for c given =
             place = bounds .free (c .before .loop-test .taken);
           };
       sized = given .sized;
+      allows = given .allows;
       tabled = given .tabled;
       state = running .state;
     }
@@ -135,50 +146,75 @@ sums-for c given =
 sums-here : (c : tie.After-shared-slice-known2 Inv-loop μ-loop) → Here c (start-of c .pre .of)
 sums-here c = sums-for c (start-of c .pre)
 
-found : (c : tie.Joined2-2 Inv-loop μ-loop) (given : Given (c .before .before .before .before))
-    → let known = c .before .before .before .before in
-    let args = start-of known .args in
-    let loop = known .before .before .loop in
-    Verdict (given .of) (window (args .m) (args .text .now) (loop .s)) (loop .inspections) (c .if2 .listed) (c .if2 .inspections)
-found c given =
-    let here = sums-for (c .before .before .before .before) given in
-    let added = c .before .before .wrapping-add-u64 .ensures in
-    ⊎-elim
-    (λ w. found-verified here added (w .0 .taken) (w .2 .taken) (w .6 ∙ w .4 .ensures ∙ within-matches (given .of) _ (given .pattern-counts)) (w .5))
-    (λ w.
-    ⊎-elim (λ v. found-exact here added (v .0 .taken) (v .2 .left) (w .2) (w .1)) (λ v. found-none here added (v .left) (w .2) (w .1)) (w .0 .came))
-    (c .if2 .came)
+-- where the sum is made
+abbrev summed-at : tie.After-may-match Inv-loop μ-loop → tie.After-shared-slice-known2 Inv-loop μ-loop
+summed-at c = c .before .before .before .before
 
--- where the window was judged and its first byte has left it
+-- the search goes on once the window was judged
+judged-on : (c : tie.Joined2 Inv-loop μ-loop) (given : Given (summed-at (c .before)))
+    → let known = summed-at (c .before) in
+    let args = start-of known .args in
+    Progress (hcamJudged (given .of)) (args .m) (args .text .now) (args .range) (args .list .now) (c .if2 .list) (c .if2 .at) (c .if2 .inspections)
+    (known .before .before .loop .s + 1)
+judged-on c given =
+    let here = sums-for (summed-at (c .before)) given in
+    let added = c .before .before .before .wrapping-add-u64 .ensures in
+    let told = c .before .may-match .ensures in
+    ⊎-elim
+    (λ w. rw (w .7, w .8) (on-listed here added (found here added (sym told ∙ w .0 .taken) (w .2 .ensures)) (w .4 .taken) (w .9)))
+    (λ v.
+    ⊎-elim
+    (λ w. rw (w .7, w .8) (on-listed here added (found here added (sym told ∙ w .0 .taken) (w .2 .ensures)) (w .4 .taken) (w .9)))
+    (λ u.
+    ⊎-elim
+    (λ w. rw (w .5, w .6) (on-skipped here added (found here added (sym told ∙ w .0 .taken) (w .2 .ensures)) (w .4 .left) (w .7)))
+    (λ w. rw (w .1, w .2) (on-skipped here added (none here added (sym told ∙ w .0 .left)) refl (w .3 ∙ omega arith))) u) v) (c .if2 .came)
+
+-- up to the same end, or where the list is full with this window
+bounded-on : (c : tie.Joined2 Inv-loop μ-loop)
+    → let loop = summed-at (c .before) .before .before .loop in
+    (Bounded (start-of (summed-at (c .before)) .args .range) (c .if2 .list) (c .if2 .end) (c .if2 .at) (loop .s + 1)) × (c .if2 .end ≤ loop .end)
+bounded-on c =
+    let known = summed-at (c .before) in
+    let range = start-of known .args .range in
+    let loop = known .before .before .loop in
+    let bounds = loop .inv .0 in
+    let inside = known .before .loop-test .taken in
+    let same = length-set (loop .list) (loop .at) (range .base + loop .s) in
+    let still : Bounded range (loop .list) (loop .end) (loop .at) (loop .s + 1) = record { free = λ l. bounds .free inside; why = bounds .why } in
+    ⊎-elim
+    (λ w.
+    rw (w .7, w .8, w .10) (record { free = λ l. absurd (omega arith); why = inr (omega (arith, w .6 .taken)) }, omega arith))
+    (λ v.
+    ⊎-elim
+    (λ w.
+    rw (w .7, w .8, w .10) (
+      record {
+        free = λ l. omega (arith, bounds .free inside, w .6 .left);
+        why = ⊎-elim (λ e. inl e) (λ full. absurd (omega (arith, bounds .free inside))) (bounds .why);
+      },
+      le-refl (loop .end),
+    ))
+    (λ u.
+    ⊎-elim (λ w. rw (w .5, w .6, w .8) (still, le-refl (loop .end)))
+    (λ w. rw (w .1, w .2, w .4) (still, le-refl (loop .end))) u) v) (c .if2 .came)
+
+-- where the first byte has left the window
 abbrev known-of : tie.After-wrapping-sub-u64 Inv-loop μ-loop → tie.After-shared-slice-known2 Inv-loop μ-loop
-known-of c = c .before .before .before .before .before .before .before
+known-of c = summed-at (c .before .before .before .before)
 
 slid : (c : tie.After-wrapping-sub-u64 Inv-loop μ-loop) (given : Given (known-of c))
     → let known = known-of c in
-    Summing (given .of) (windowPrefix (start-of known .args .m) (start-of known .args .text .now) (known .before .before .loop .s + 1)) (c .wrapping-sub-u64 .result)
-slid c given =
-    kept (sums-for (known-of c) given) (c .before .before .before .before .before .wrapping-add-u64 .ensures) (omega arith) (c .wrapping-sub-u64 .ensures)
-
--- it is listed, or it is not
-listed-on : (c : tie.Then4 Inv-loop μ-loop) (given : Given (known-of (c .before)))
-    → let known = known-of (c .before) in
-    let args = start-of known .args in
+    let T = start-of known .args .text .now in
+    let m = start-of known .args .m in
     let loop = known .before .before .loop in
-    Running (given .of) (args .m) (args .text .now) (args .range) (args .list .now) (set (loop .list) (loop .at) (args .range .base + (loop .s + 1) - 1))
-    (c .before .wrapping-sub-u64 .result) (loop .at + 1) (c .before .before .before .before .if2 .inspections) (loop .s + 1)
-listed-on c given =
-    let known = known-of (c .before) in
-    let here = sums-for known given in
-    let verdict = found (c .before .before .before .before) given in
-    let base = start-of known .args .range .base in
-    let s = known .before .before .loop .s in
-    let place : base + (s + 1) - 1 ≡ base + s = omega arith in
-    record {
-      progress =
-          rw place
-          (turn-listed (here .turn) (c .before .before .before .before .if2 .inspections) (verdict .counted) (verdict .bounded) (sym (verdict .right) ∙ c .if4 .taken));
-      state = slid (c .before) given;
-    }
+    Summing (given .of) (windowPrefix m T (loop .s + 1))
+    (record {
+      sum = c .wrapping-sub-u64 .result;
+      lost = loop .lost + boolByte (eqb (getD T (loop .s + m - 1) 0) lostHour) - boolByte (eqb (getD T (loop .s) 0) lostHour);
+    })
+slid c given =
+    kept (sums-for (known-of c) given) (c .before .before .before .before .before .before .wrapping-add-u64 .ensures) (omega arith) (c .wrapping-sub-u64 .ensures)
 
 loop-holds : tie.Need-loop-holds Inv-loop μ-loop
 loop-holds c =
@@ -209,8 +245,8 @@ sub-entering c = omega (arith, begun c)
 shared-slice-read-entering : tie.Need-shared-slice-read-entering Inv-loop μ-loop
 shared-slice-read-entering c = omega (arith, whole (sums-here c .turn), start-of c .pre .fitting .some)
 
-cast-entering : tie.Need-cast-entering Inv-loop μ-loop
-cast-entering c = omega (arith, both-bytes (sums-here c .turn))
+cast-wrapping-add-u64 : tie.Need-cast-wrapping-add-u64 Inv-loop μ-loop
+cast-wrapping-add-u64 c = omega (arith, both-bytes (sums-here c .turn))
 
 add-inspections : tie.Need-add-inspections Inv-loop μ-loop
 add-inspections c = omega (arith, has-inspections (sums-here c .turn))
@@ -224,45 +260,78 @@ element-copy-out-wrapping-add-u64 c = omega (arith, both-bytes (sums-here c .tur
 wrapping-add-u64-requires : tie.Need-wrapping-add-u64-requires Inv-loop μ-loop
 wrapping-add-u64-requires c κs = tt
 
--- where a candidate is to be verified
-abbrev to-verify : tie.Then3 Inv-loop μ-loop → tie.After-shared-slice-known2 Inv-loop μ-loop
-to-verify c = c .before .before .before .before .before .before
+cast-lost : tie.Need-cast-lost Inv-loop μ-loop
+cast-lost c = tt
 
-add-inspections-2 : tie.Need-add-inspections-2 Inv-loop μ-loop
-add-inspections-2 c = omega (arith, has-inspections (sums-here (to-verify c) .turn), start-of (to-verify c) .pre .fitting .short)
+may-match-requires : tie.Need-may-match-requires Inv-loop μ-loop
+may-match-requires c κs = tt
 
-add-within : tie.Need-add-within Inv-loop μ-loop
-add-within c = omega (arith, whole (sums-here (to-verify c) .turn))
+-- where the window is to be judged
+abbrev to-judge : tie.Then2 Inv-loop μ-loop → tie.After-shared-slice-known2 Inv-loop μ-loop
+to-judge c = summed-at (c .before)
 
-sub-within : tie.Need-sub-within Inv-loop μ-loop
-sub-within c = omega arith
+add-judge : tie.Need-add-judge Inv-loop μ-loop
+add-judge c = omega (arith, whole (sums-here (to-judge c) .turn))
 
-part-within-start : tie.Need-part-within-start Inv-loop μ-loop
-part-within-start c = omega arith
+sub-judge : tie.Need-sub-judge Inv-loop μ-loop
+sub-judge c = omega arith
 
-part-within-end : tie.Need-part-within-end Inv-loop μ-loop
-part-within-end c = omega (arith, whole (sums-here (to-verify c) .turn))
+part-judge-start : tie.Need-part-judge-start Inv-loop μ-loop
+part-judge-start c = omega arith
 
-within-requires : tie.Need-within-requires Inv-loop μ-loop
-within-requires c κs =
-    let turn = sums-here (to-verify (c .before)) .turn in
-    let args = start-of (to-verify (c .before)) .args in
+part-judge-end : tie.Need-part-judge-end Inv-loop μ-loop
+part-judge-end c = omega (arith, whole (sums-here (to-judge c) .turn))
+
+judge-requires : tie.Need-judge-requires Inv-loop μ-loop
+judge-requires c κs =
+    let turn = sums-here (to-judge (c .before)) .turn in
+    let args = start-of (to-judge (c .before)) .args in
     omega (
       arith,
-      ap length (window-part (args .m) (args .text .now) (to-verify (c .before) .before .before .loop .s)),
+      ap length (window-part (args .m) (args .text .now) (to-judge (c .before) .before .before .loop .s)),
       whole-window turn,
       turn .fitting .short,
     )
 
+-- where it was judged
+abbrev judged-at : tie.After-struct-known2 Inv-loop μ-loop → tie.After-shared-slice-known2 Inv-loop μ-loop
+judged-at c = to-judge (c .before .before .before)
+
+add-inspections-2 : tie.Need-add-inspections-2 Inv-loop μ-loop
+add-inspections-2 c =
+    let then2 : tie.Then2 Inv-loop μ-loop = c .before .before .before in
+    let here = sums-here (to-judge then2) in
+    let added = then2 .before .before .before .wrapping-add-u64 .ensures in
+    let right = found here added (sym (then2 .before .may-match .ensures) ∙ then2 .if2 .taken) (c .before .judge .ensures) in
+    omega (arith, has-inspections (here .turn), verification-small here added right)
+
+add-list : tie.Need-add-list Inv-loop μ-loop
+add-list c = omega (arith, has-number (sums-here (judged-at (c .before .before)) .turn))
+
+cast-list : tie.Need-cast-list Inv-loop μ-loop
+cast-list c = omega (arith, has-number (sums-here (judged-at (c .before .before)) .turn))
+
+mul-list : tie.Need-mul-list Inv-loop μ-loop
+mul-list c = omega (arith, has-room (sums-here (judged-at (c .before .before)) .turn))
+
+slice-write-list : tie.Need-slice-write-list Inv-loop μ-loop
+slice-write-list c = sums-here (judged-at (c .before .before)) .turn .place
+
+add-at : tie.Need-add-at Inv-loop μ-loop
+add-at c = omega (arith, has-room (sums-here (judged-at (c .before .before)) .turn))
+
+add-end : tie.Need-add-end Inv-loop μ-loop
+add-end c = omega (arith, has-number (sums-here (judged-at (c .before .before .before)) .turn))
+
 -- where the byte that leaves is known
 abbrev leaving : tie.After-shared-slice-known3 Inv-loop μ-loop → tie.After-shared-slice-known2 Inv-loop μ-loop
-leaving c = c .before .before .before .before .before
+leaving c = summed-at (c .before .before)
 
 shared-slice-read-leaving : tie.Need-shared-slice-read-leaving Inv-loop μ-loop
 shared-slice-read-leaving c = omega (arith, whole (sums-here (leaving c) .turn), start-of (leaving c) .pre .fitting .some)
 
-cast-leaving : tie.Need-cast-leaving Inv-loop μ-loop
-cast-leaving c = omega (arith, both-bytes (sums-here (leaving c) .turn))
+cast-wrapping-sub-u64 : tie.Need-cast-wrapping-sub-u64 Inv-loop μ-loop
+cast-wrapping-sub-u64 c = omega (arith, both-bytes (sums-here (leaving c) .turn))
 
 mul-wrapping-sub-u64 : tie.Need-mul-wrapping-sub-u64 Inv-loop μ-loop
 mul-wrapping-sub-u64 c = omega (arith, both-bytes (sums-here (leaving c) .turn))
@@ -273,62 +342,21 @@ element-copy-out-wrapping-sub-u64 c = omega (arith, both-bytes (sums-here (leavi
 wrapping-sub-u64-requires : tie.Need-wrapping-sub-u64-requires Inv-loop μ-loop
 wrapping-sub-u64-requires c κs = tt
 
+cast-lost-2 : tie.Need-cast-lost-2 Inv-loop μ-loop
+cast-lost-2 c = tt
+
 add-s : tie.Need-add-s Inv-loop μ-loop
 add-s c = omega (arith, has-number (sums-here (known-of c) .turn))
 
-add-list : tie.Need-add-list Inv-loop μ-loop
-add-list c = omega (arith, has-number (sums-here (known-of (c .before .before)) .turn))
-
-sub-list : tie.Need-sub-list Inv-loop μ-loop
-sub-list c = omega arith
-
-cast-list : tie.Need-cast-list Inv-loop μ-loop
-cast-list c = omega (arith, has-number (sums-here (known-of (c .before .before)) .turn))
-
-mul-list : tie.Need-mul-list Inv-loop μ-loop
-mul-list c = omega (arith, has-room (sums-here (known-of (c .before .before)) .turn))
-
-slice-write-list : tie.Need-slice-write-list Inv-loop μ-loop
-slice-write-list c = sums-here (known-of (c .before .before)) .turn .place
-
-add-at : tie.Need-add-at Inv-loop μ-loop
-add-at c = omega (arith, has-room (sums-here (known-of (c .before .before)) .turn))
-
 loop-less : tie.Need-loop-less Inv-loop μ-loop
-loop-less c = omega arith
+loop-less c =
+    let known = known-of c in
+    omega (arith, bounded-on (c .before .before .before) .1, known .before .loop-test .taken)
 
 loop-again : tie.Need-loop-again Inv-loop μ-loop
 loop-again c =
-    let then4 : tie.Then4 Inv-loop μ-loop = c .before .before in
-    let known = known-of (then4 .before) in
-    let bounds = known .before .before .loop .inv .0 in
-    let place = bounds .free (known .before .loop-test .taken) in
-    let same = length-set (known .before .before .loop .list) (known .before .before .loop .at) (start-of known .args .range .base + (known .before .before .loop .s + 1) - 1) in
-    let left = c .if5 .left in (
-      record {
-        free = λ l. omega arith;
-        why = ⊎-elim (λ e. inl e) (λ full. absurd (omega arith)) (bounds .why);
-      },
-      λ given. listed-on then4 given,
-    )
-
-loop-less-2 : tie.Need-loop-less-2 Inv-loop μ-loop
-loop-less-2 c = omega arith
-
-loop-again-2 : tie.Need-loop-again-2 Inv-loop μ-loop
-loop-again-2 c =
-    let known = known-of (c .before) in
-    let bounds = known .before .before .loop .inv .0 in (
-      record { free = λ l. bounds .free (known .before .loop-test .taken); why = bounds .why },
-      λ given.
-          let verdict = found (c .before .before .before .before) given in
-          record {
-            progress =
-                turn-skipped (sums-for known given .turn) (c .before .before .before .before .if2 .inspections) (verdict .counted) (verdict .bounded)
-                (sym (verdict .right) ∙ c .if4 .left);
-            state = slid (c .before) given;
-          },
-    )
+    let judged = c .before .before .before in
+    (bounded-on judged .0, λ given. record { progress = judged-on judged given; state = slid c given })
 
 same-length : tie.Need-same-length Inv-loop μ-loop
 same-length c = c .before .loop .inv .1 (c .before .before .before .before .before .pre) .progress .same-length
@@ -339,15 +367,19 @@ returns c =
     let running = c .before .loop .inv .1 given in
     record { searched = ended (running .progress) (bounded-end (c .before .loop .inv .0) (c .loop-test .left)); state = running .state }
 
-same-length-2 : tie.Need-same-length-2 Inv-loop μ-loop
-same-length-2 c = listed-on (c .before .before) (start-of (known-of (c .before .before .before)) .pre) .progress .same-length
+add-lost : tie.Need-add-lost Inv-loop μ-loop
+add-lost c =
+    let here = sums-here (c .before .before) in
+    let args = start-of (c .before .before) .args in
+    omega (
+      arith,
+      lost-few (here .state),
+      prefix-short (here .turn),
+      byte-le (eqb (getD (args .text .now) (c .before .before .before .before .loop .s + args .m - 1) 0) lostHour),
+    )
 
-returns-2 : tie.Need-returns-2 Inv-loop μ-loop
-returns-2 c =
-    λ given.
-    let running = listed-on (c .before .before) given in
-    let full = c .if5 .taken in
-    record { searched = ended (running .progress) (inr (omega arith)); state = running .state }
+sub-lost : tie.Need-sub-lost Inv-loop μ-loop
+sub-lost c = there (sums-here (known-of c)) (c .before .before .before .before .before .before .wrapping-add-u64 .ensures)
 
 pub hcam-windows-spec : {M : Type 1} → statement M
 hcam-windows-spec =
@@ -359,34 +391,35 @@ hcam-windows-spec =
     add-entering
     sub-entering
     shared-slice-read-entering
-    cast-entering
     add-inspections
+    cast-wrapping-add-u64
     mul-wrapping-add-u64
     element-copy-out-wrapping-add-u64
     wrapping-add-u64-requires
+    cast-lost
+    add-lost
+    may-match-requires
+    add-judge
+    sub-judge
+    part-judge-start
+    part-judge-end
+    judge-requires
     add-inspections-2
-    add-within
-    sub-within
-    part-within-start
-    part-within-end
-    within-requires
-    shared-slice-read-leaving
-    cast-leaving
-    mul-wrapping-sub-u64
-    element-copy-out-wrapping-sub-u64
-    wrapping-sub-u64-requires
-    add-s
     add-list
-    sub-list
     cast-list
     mul-list
     slice-write-list
     add-at
+    add-end
+    shared-slice-read-leaving
+    cast-wrapping-sub-u64
+    mul-wrapping-sub-u64
+    element-copy-out-wrapping-sub-u64
+    wrapping-sub-u64-requires
+    cast-lost-2
+    sub-lost
+    add-s
     loop-less
     loop-again
-    loop-less-2
-    loop-again-2
     same-length
-    returns
-    same-length-2
-    returns-2)
+    returns)

@@ -19,13 +19,13 @@ start-of s = s .before .before .before .before .before .before .before .before
 
 accepted : (s : tie.After-enum-told)
     → let args = start-of s .args in
-    given (severalPatternTests (args .lengths .now) (length (args .patterns .now)) (args .k)) ≡ 0
+    given (severalPatternTests (args .lengths .now) (args .patterns .now) (args .k)) ≡ 0
 accepted s = sym (s .before .before .admit .ensures) ∙ ap admissionNumber (s .enum-told .given .1)
 
 taken : (s : tie.After-enum-told)
     → let args = start-of s .args in
-    SeveralTaken (args .lengths .now) (length (args .patterns .now)) (args .k)
-taken s = let args = start-of s .args in several-taken (args .lengths .now) (length (args .patterns .now)) (args .k) (accepted s)
+    SeveralTaken (args .lengths .now) (args .patterns .now) (args .k)
+taken s = let args = start-of s .args in several-taken (args .lengths .now) (args .patterns .now) (args .k) (accepted s)
 
 abbrev earlier : tie.After-enum-told2 → tie.After-enum-told
 earlier s = s .before .before .before .before
@@ -51,7 +51,7 @@ sized s =
 abbrev ready : (c : tie.After-rooms2)
     → let args = start-of (earlier (c .before .before .before .before .before)) .args in
     Passable (getD (args .lengths .now) 0 0) (length (args .lengths .now)) (c .before .before .before .before .fields-for .result)
-    (c .before .place-patterns .last .1 .1 .1 .0) (args .text .now) (args .positions .now) (args .numbers .now)
+    (c .before .place-patterns .last .1 .1 .1 .1 .0) (args .text .now) (args .positions .now) (args .numbers .now)
 ready c =
     let told2 : tie.After-enum-told2 = c .before .before .before .before .before in
     let args = start-of (earlier told2) .args in
@@ -108,6 +108,8 @@ place-patterns-requires : tie.Need-place-patterns-requires
 place-patterns-requires c κs =
     let set = taken (earlier (c .before .before .before)) .set in
     record {
+      waiting = _;
+      fields-are = c .before .before .fields-for .ensures;
       few = set .few;
       short = set .short;
       enough = omega (arith, set .all);

@@ -1,21 +1,23 @@
 -- `several_fields::place_patterns` meets its contract. The loop's invariant: the patterns before the one at hand are placed.
 use mathlib.Core.Path.{_≡_, sym, ap, _∙_}
+use mathlib.Core.List.{List}
 use Prim.Native.Nat.{ℕ, _+_, _-_, _*_, _≤_, _<_}
 use native.Mathlib.Nat.{add-mul, one-mul, zero-mul, mul-le-mul, mul-le-mul-right}
 use native.Mathlib.Omega.{arith}
-use lib.ListN.{length}
+use lib.ListN.{length, set}
+use Rattle.jumbled.specs.Match.{lostHour}
 use Rattle.table_parikh.specs.Table.{tabulate}
-use Rattle.several_fields.proofs.Placing.{placedWord, placed-none, part-able, part-added, placed-all}
+use Rattle.several_fields.proofs.Placing.{placedWord, placed-none, part-able, part-added, lost-room-fits, placed-all}
 use Rattle.several_fields.proofs.place_patterns.Statement.{statement}
 use Rattle.several_fields.proofs.place_patterns.Tie as tie
 use Rattle.several_fields.proofs.place_pattern.Reads as place-pattern-reads
 
 abbrev Inv-loop : tie.InvT-loop
-Inv-loop patterns m count rooms₀ at₀ field₀ rooms at field =
+Inv-loop patterns m count fields rooms₀ at₀ field₀ rooms at field =
     (field ≤ count) × (at ≡ field * m) × (rooms ≡ tabulate 256 (placedWord m patterns count field))
 
 abbrev μ-loop : tie.MeasureT-loop
-μ-loop patterns m count rooms₀ at₀ field₀ rooms at field = count - field
+μ-loop patterns m count fields rooms₀ at₀ field₀ rooms at field = count - field
 
 abbrev start-of : tie.In-loop Inv-loop μ-loop → tie.Start Inv-loop μ-loop
 start-of c = c .before .before .before
@@ -85,11 +87,22 @@ loop-again c =
 
 returns : tie.Need-returns Inv-loop μ-loop
 returns c =
-    let args = c .before .before .before .args in
-    let same : c .before .loop .field ≡ args .count = omega (arith, c .before .loop .inv .0, c .loop-test .left) in
-    c .before .loop .inv .2
-    ∙ ap (λ (n : ℕ). tabulate 256 (placedWord (args .m) (args .patterns .now) (args .count) n)) same
-    ∙ placed-all (c .before .before .before .pre)
+    let args = c .before .before .before .before .args in
+    let same : c .before .before .loop .field ≡ args .count = omega (arith, c .before .before .loop .inv .0, c .before .loop-test .left) in
+    let all = c .before .before .loop .inv .2 ∙ ap (λ (n : ℕ). tabulate 256 (placedWord (args .m) (args .patterns .now) (args .count) n)) same in
+    ap (λ (rooms : List ℕ). set rooms lostHour (args .fields .ones * 191)) all ∙ placed-all (c .before .before .before .before .pre)
+
+mul-rooms : tie.Need-mul-rooms Inv-loop μ-loop
+mul-rooms c = record { fits = lost-room-fits (c .before .before .before .before .pre) }
+
+cast-rooms : tie.Need-cast-rooms Inv-loop μ-loop
+cast-rooms c = omega arith
+
+mul-rooms-2 : tie.Need-mul-rooms-2 Inv-loop μ-loop
+mul-rooms-2 c = omega arith
+
+element-write-rooms : tie.Need-element-write-rooms Inv-loop μ-loop
+element-write-rooms c = omega arith
 
 pub place-patterns-spec : {M : Type 1} → statement M
 place-patterns-spec =
@@ -109,4 +122,8 @@ place-patterns-spec =
     add-field
     loop-less
     loop-again
+    mul-rooms
+    cast-rooms
+    mul-rooms-2
+    element-write-rooms
     returns)

@@ -81,6 +81,15 @@ loop-again c ready =
 returns : tie.Need-returns Inv-loop μ-loop
 returns c ready = let at = c .before .loop in tabled-end ready _ (at .own-tops) (at .at) (at .byte) (c .loop-test .left) (at .inv ready)
 
+cast-own-tops : tie.Need-cast-own-tops Inv-loop μ-loop
+cast-own-tops c = omega arith
+
+mul-own-tops-2 : tie.Need-mul-own-tops-2 Inv-loop μ-loop
+mul-own-tops-2 c = omega arith
+
+element-write-own-tops-2 : tie.Need-element-write-own-tops-2 Inv-loop μ-loop
+element-write-own-tops-2 c = omega arith
+
 pub place-own-tops-spec : {M : Type 1} → statement M
 place-own-tops-spec =
     tie.close
@@ -98,4 +107,7 @@ place-own-tops-spec =
     add-byte
     loop-less
     loop-again
+    cast-own-tops
+    mul-own-tops-2
+    element-write-own-tops-2
     returns)

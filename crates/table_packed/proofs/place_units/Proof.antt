@@ -104,6 +104,15 @@ returns c ready =
     let at = c .before .loop in
     packed-end ready (at .start) (at .tops) (at .byte) (at .units) (at .at) (c .loop-test .left) (at .inv ready .0) (at .inv ready .1)
 
+cast-units : tie.Need-cast-units Inv-loop μ-loop
+cast-units c = omega arith
+
+mul-units-2 : tie.Need-mul-units-2 Inv-loop μ-loop
+mul-units-2 c = omega arith
+
+element-write-units-2 : tie.Need-element-write-units-2 Inv-loop μ-loop
+element-write-units-2 c = omega arith
+
 pub place-units-spec : {M : Type 1} → statement M
 place-units-spec =
     tie.close
@@ -123,4 +132,7 @@ place-units-spec =
     add-byte
     loop-less
     loop-again
+    cast-units
+    mul-units-2
+    element-write-units-2
     returns)

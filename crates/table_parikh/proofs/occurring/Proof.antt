@@ -15,6 +15,12 @@ Inv-loop pattern occurs₀ i₀ i-end occurs i = (i ≤ length pattern) × Occur
 abbrev μ-loop : tie.MeasureT-loop
 μ-loop pattern occurs₀ i₀ i-end occurs i = i-end - i
 
+cast-occurs : tie.Need-cast-occurs Inv-loop μ-loop
+cast-occurs c = omega arith
+
+array-write-occurs : tie.Need-array-write-occurs Inv-loop μ-loop
+array-write-occurs c = omega arith
+
 loop-holds : tie.Need-loop-holds Inv-loop μ-loop
 loop-holds c = (omega arith, occurring-none)
 
@@ -24,8 +30,8 @@ shared-slice-read-byte c = omega arith
 cast-byte : tie.Need-cast-byte Inv-loop μ-loop
 cast-byte c = omega (arith, c .shared-slice-known .given (c .before .before .loop .i))
 
-array-write-occurs : tie.Need-array-write-occurs Inv-loop μ-loop
-array-write-occurs c = omega (arith, c .shared-slice-known .given (c .before .before .loop .i))
+array-write-occurs-2 : tie.Need-array-write-occurs-2 Inv-loop μ-loop
+array-write-occurs-2 c = omega (arith, c .shared-slice-known .given (c .before .before .loop .i))
 
 add-i : tie.Need-add-i Inv-loop μ-loop
 add-i c = omega arith
@@ -54,10 +60,12 @@ occurring-spec =
     (tie.spec
     Inv-loop
     μ-loop
+    cast-occurs
+    array-write-occurs
     loop-holds
     shared-slice-read-byte
     cast-byte
-    array-write-occurs
+    array-write-occurs-2
     add-i
     loop-less
     loop-again
