@@ -28,8 +28,8 @@ from vectors_coverage import VectorCoverage
 STORED = os.path.join(
     os.path.dirname(os.path.dirname(os.path.abspath(__file__))), "crates", "vectors", "stdin"
 )
-# The room that the program has is 768 * 1024.
-MOST_BYTES = 736 * 1024
+# The room that the program has is 1024 * 1024.
+MOST_BYTES = 992 * 1024
 FEWEST_CASES = 7000
 
 
@@ -58,7 +58,7 @@ def replay(data, coverage):
         vs.SET_METHOD: stream.set_method, vs.SAVE: stream.save, vs.LOAD: stream.load,
         vs.HAND: lambda *fields: stream.hand(ref.Stored(*fields)),
         vs.REPORT: stream.report, vs.WIDTH: stream.width, vs.EXACT: stream.exact,
-        vs.SEVERAL: stream.several, vs.MARKED: stream.marked,
+        vs.SEVERAL: stream.several, vs.MARKED: stream.marked, vs.FIRST: stream.first,
     }
     different = []
     for op, arguments, outcome in vs.read_cases(data):

@@ -1303,7 +1303,8 @@ def fed_in_turn(stream, pattern, pieces, methods):
     for at, piece in enumerate(pieces):
         if at:
             stream.set_method(methods[at % len(methods)])
-        assert stream.feed(piece) == 0
+        number = stream.feed(piece)
+        assert number == 0
         record += piece
         listed += stream.listed
         assert listed == ref.listed_positions(pattern, 0, record)
@@ -2055,6 +2056,291 @@ def series_with_lost_hours(stream, rng):
         LossySeries(stream, rng, METHODS).run(rng.randrange(8, 36))
 
 
+# --- The first match from a given hour on (document 02, T-08) --------------------------------
+
+
+def first_from(stream, start, pattern, k, method, text):
+    return stream.first(vs.First(start, pattern), k, method, text)
+
+
+def from_each_hour(stream, pattern, k, text, methods=METHODS):
+    """By each of the methods that takes the terms, from every reading on and from the
+    end."""
+    for method in allowed_methods(pattern, k, methods):
+        for start in range(len(text) + 1):
+            first_from(stream, start, pattern, k, method, text)
+
+
+def sheet_from_each_hour(stream, rng):
+    for pattern, k, text, _, _ in SHEET:
+        from_each_hour(stream, pattern, k, text)
+
+
+def hours_beside_matches(stream, rng):
+    """Matches alone and side by side, with readings before, between and after them that
+    belong to none: an hour at one, one before and one after, between two, and past the
+    last."""
+    from_each_hour(stream, b"aab", 0, b"xabaxxbbaabbx")
+    from_each_hour(stream, b"aabb", 1, b"xxabxabbaxxb")
+
+
+# Hours past the end, at both sides of what fewer bits hold.
+FAR_HOURS = (
+    255, 256, 2**16 - 1, 2**16, 2**32 - 2, 2**32 - 1, 2**32, 2**32 + 1, 2**63 - 1, 2**63,
+    2**63 + 1, 2**64 - 3, 2**64 - 2, 2**64 - 1,
+)
+
+
+def far_hours(stream, rng):
+    """In texts of which every window matches, so that an hour with bits cut off would
+    find one; also where the hour and m together come to 2^64, to one less and to
+    more."""
+    for at, start in enumerate(FAR_HOURS):
+        edge = start in (2**32 - 1, 2**32, 2**63, 2**64 - 2, 2**64 - 1)
+        for method in METHODS if edge else METHODS[at % 3 :: 3]:
+            first_from(stream, start, b"aa", 0, method, b"aaaaa")
+    for method in METHODS:
+        first_from(stream, 2**64 - 1, b"a", 0, method, b"a")
+        first_from(stream, 2**64 - 64 + method % 2, b"a" * 64, 0, method, repeated(65, b"a"))
+    for start in (2**32, 2**64 - 1):
+        for method in (1, 4):
+            first_from(stream, start, b"aab", 2, method, b"aabaab")
+            first_from(stream, start, b"aab", 0, method, b"")
+
+
+def lengths_from_an_hour(stream, rng):
+    """Texts at both sides of m, from both sides of the last window and of the end, by
+    some of the methods in turn."""
+    for m in (1, 2, 63, 64):
+        pattern = repeated(m, b"ab").value
+        for n in (m - 1, m, m + 1):
+            starts = sorted({0, n - m, n - m + 1, n - 1, n, n + 1} - {-1})
+            for at, start in enumerate(starts):
+                for method in METHODS[(at + n) % 3 :: 3]:
+                    first_from(stream, start, pattern, 0, method, repeated(n, b"ab"))
+
+
+def error_before_the_match(rng, pattern, k):
+    """A window with an error more than k, and then one with k: an error leaves, and a
+    letter of the pattern enters."""
+    kept, wrong = shuffled(rng, pattern)[k:], strangers(rng, pattern, k + 1)
+    return wrong[:1] + shuffled(rng, wrong[1:] + kept[1:]) + kept[:1]
+
+
+def errors_to_the_edge(rng, pattern, k):
+    """A text of so many errors to a window, about, and an hour from which on the first
+    match has k of them and follows a window with one more."""
+    m, wrong = len(pattern), min(16 * k // len(pattern), 15)
+    own = b"x" * wrong + b"a" * (15 - wrong) + (b"b" if wrong < 12 else b"a")
+    while True:
+        text = scattered(m + 150, rng.randrange(2**32), own)
+        errors = [ref.excess(text.value[s : s + m], pattern) for s in range(151)]
+        after = 0
+        for s in range(1, 151):
+            if errors[s - 1 : s + 1] == [k + 1, k]:
+                return text, rng.randrange(after, s)
+            if errors[s] <= k:
+                after = s + 1
+
+
+def every_k_from_an_hour(stream, rng):
+    """All k of several m, where an error more makes the difference."""
+    for m in (1, 2, 3, 5):
+        for k, method in itertools.product(range(m), (1, 4)):
+            pattern = pattern_of(rng, m, rng.randrange(1, 4))
+            for start in (0, 1):
+                text = error_before_the_match(rng, pattern, k)
+                first_from(stream, start, pattern, k, method, text)
+    for m, tolerances in ((63, (0, 1, 31, 61, 62)), (64, range(64))):
+        pattern = b"a" * (m - 3) + b"bbb"
+        for k in tolerances:
+            text, start = errors_to_the_edge(rng, pattern, k)
+            for method in (1, 4):
+                first_from(stream, start, pattern, k, method, text)
+
+
+# Of a text of 65,536 readings, in which the last window alone is a mix of `aaaaaaab`.  It
+# was found by going back from a state that makes one, and is tested.
+LAST_ALONE = 2104188699
+
+
+def only_the_last_window(stream, rng):
+    """Short, of long windows that method 6 verifies all of, and in the longest text."""
+    for pattern, text in (
+        (b"ab", b"aaxxaab"), (b"aab", b"bb-xbbaba"), (b"abcd", b"abcaacc-bd"),
+    ):
+        matches = ref.listed_positions(pattern, 0, text)
+        assert matches == [len(text) - len(pattern)]
+        for method in METHODS:
+            first_from(stream, 0, pattern, 0, method, text)
+    pattern = b"ba" * 32
+    for method, start in itertools.product(METHODS, (0, 63)):
+        first_from(stream, start, pattern, 0, method, b"b" * 64 + pattern)
+    text = scattered(65536, LAST_ALONE, b"abcdx")
+    assert ref.listed_positions(b"aaaaaaab", 0, text.value) == [65528]
+    for method, start in itertools.product(METHODS, (0, 65528, 65529)):
+        first_from(stream, start, b"aaaaaaab", 0, method, text)
+
+
+def after_the_last_match(stream, rng):
+    """In long texts: before the last match, after it, and in a text that has none."""
+    text = repeated(65000, b"a" + b"x" * 200)
+    last = text.value.rindex(b"a")
+    for method, start in itertools.product(METHODS, (last - 200, last + 1)):
+        first_from(stream, start, b"a", 0, method, text)
+    for method in METHODS:
+        start = rng.choice((0, 1, 65533, 65534))
+        first_from(stream, start, b"ab", 0, method, repeated(65536, b"bbx"))
+
+
+def most_looks_from_an_hour(stream, rng):
+    """Every window verified in vain: by method 6 for its letters, by method 5 for a lost
+    hour; from the start, from the second window, from the last and from after it."""
+    for start in (0, 1, 65472, 65473):
+        first_from(stream, start, b"a" * 63 + b"b", 0, 6, repeated(65536, b"b"))
+        first_from(stream, start, b"ab" * 32, 0, 5, repeated(65536, b"-xxxxxxxxx"))
+    for start in (0, 65472):
+        first_from(stream, start, b"ab" * 32, 0, 1, repeated(65536, b"-xxxxxxxxx"))
+
+
+def lost_hours_from_each_hour(stream, rng):
+    """Windows with lost hours that match and that don't, found and passed over, also with
+    an error; the lost hours before the start are none of theirs.  Then texts of nothing
+    else."""
+    from_each_hour(stream, b"abc", 0, b"-xbca-xxc-bb--x")
+    from_each_hour(stream, b"aabb", 1, b"-xx-xabb-xbx-b")
+    for method in METHODS:
+        first_from(stream, 0, b"abc", 0, method, b"a-c")
+        for start in (1, 2):
+            first_from(stream, start, b"ab" * 31, 0, method, repeated(63, b"-"))
+        for start in (65534, 65535):
+            first_from(stream, start, b"ab", 0, method, repeated(65536, b"-"))
+
+
+def sums_from_an_hour(stream, rng):
+    """Method 5 with values that aren't exact: windows of equal sum that are no mixes, and
+    windows with lost hours of both kinds, before the match, at the start and alone."""
+    for parts, starts in (
+        ((0,), (0, 1)), ((1,), (0,)), ((2,), (0, 1)), ((3,), (0,)), ((4,), (0,)), ((5,), (0,)),
+        ((6,), (0,)), ((7,), (0, 1)), ((5, 0), (0, 1, 31)), ((2, 0), (0, 30)),
+        ((6, 5, 1), (0, 31, 62)), ((4, 3), (0, 1)), ((5, 6), (0, 1)), ((6, 2, 6), (0, 31, 32)),
+    ):
+        text = b"".join(HEAP_WINDOWS[part] for part in parts)
+        for start in starts:
+            first_from(stream, start, HEAP, 0, 5, text)
+    for m, more in EQUAL_SUMS[::3]:
+        pattern, window = pattern_and_window(rng, m, more)
+        for start in (0, rng.randrange(1, m)):
+            first_from(stream, start, pattern, 0, 5, window + shuffled(rng, pattern))
+    # Exact on one side, and verified on the other.
+    for q in (10, 11):
+        pattern = letters(q) + b"A" * (63 - q)
+        for start in (0, 1, 2):
+            first_from(stream, start, pattern, 0, 5, b"~" + pattern + b"A")
+
+
+def stops_from_an_hour(stream, rng):
+    """A reading that the pattern lacks at each place of the window at the start, after
+    which the scan goes on with a match, or has none left to come to."""
+    for m in (3, 5):
+        pattern = repeated(m, b"aab").value
+        for at, method in itertools.product(range(m), (2, 3, 4, 6)):
+            stopped = b"y" * at + b"x" + pattern[at + 1 :]
+            first_from(stream, 0, pattern, 0, method, stopped + pattern)
+            if m == 5:
+                first_from(stream, 1, pattern, 0, method, b"a" + stopped + pattern[:4])
+
+
+def scans_past_the_end(stream, rng):
+    """From each hour of a text whose scans go past several windows, at the end past all
+    that are left; from most of them there is nothing to find."""
+    from_each_hour(stream, b"abbab", 0, b"abxbbabaxbabxa", (2, 3, 4, 6))
+    from_each_hour(stream, b"abcab", 1, b"abxxcabcxabyx", (4,))
+
+
+def known_letters_from_an_hour(stream, rng):
+    """Method 6: from each hour windows that are verified in vain and stops, either after
+    the other and after its own kind, before a match."""
+    for pattern, text in ((b"aab", b"bbabbxbbaxaaab"), (b"ab", b"aabxbbaa-xbbba")):
+        from_each_hour(stream, pattern, 0, text, (6,))
+
+
+def hours_of_a_long_text(stream, rng):
+    for pattern, k, n, own in (
+        (b"aabb", 0, 3000, b"ab-x"), (b"abcabcaabbcc", 0, 4000, b"abc"),
+        (b"aabbcc", 1, 4000, b"abcxyz"), (b"aaab", 0, 2000, b"abxyzw"),
+    ):
+        text = scattered(n, rng.randrange(2**32), own)
+        for method in allowed_methods(pattern, k):
+            for _ in range(3):
+                first_from(stream, rng.randrange(n), pattern, k, method, text)
+
+
+def edges_of_first(stream, rng):
+    """Numbers 1 to 5 and 13 with hours within the text and past its end, and with a text
+    that is too long as well; there is no list, and so no number 7."""
+    others = (b"ab", 1, 200), (b"ab", 1, 255), (b"a" * 63, 63, 1), (b"a" * 64, 63, 1)
+    for at, terms in enumerate(TERMS + SIDES_OF_6 + SIDES_OF_13 + others):
+        starts = 0, 1, 4, 5, 2**32, 2**64 - 1
+        number = first_from(stream, starts[at % 6], *terms, b"bab-a")
+        assert number == ref.refuse_terms(*terms)
+        if terms not in SIDES_OF_6:
+            first_from(stream, starts[(at + 3) % 6], *terms, repeated(65537, b"ab"))
+
+
+def limits_of_first(stream, rng):
+    """Number 6 at its edge, wherever the hour is."""
+    for method in METHODS:
+        for start in (0, 65534, 65536):
+            first_from(stream, start, b"ab", 0, method, repeated(65536, b"bbbab"))
+        for start in (0, 65537, 2**64 - 1)[method % 2 :]:
+            first_from(stream, start, b"ab", 0, method, repeated(65537, b"bbbab"))
+
+
+def widths_of_first(stream, rng):
+    """Number 5 at its edge, with letters that come thrice, and with 64 letters."""
+    for pattern, method, _ in SIDES:
+        mix = shuffled(rng, pattern)
+        first_from(stream, 1, pattern, 0, method, b"+" + mix)
+    for method in (2, 3, 4, 6):
+        first_from(stream, 0, letters(64), 0, method, shuffled(rng, letters(64)))
+
+
+def first_with_a_lost_hour(stream, rng):
+    """Number 13 by the place in the pattern."""
+    for m in (1, 2, 3, 64):
+        for at in sorted({0, m // 2, m - 1}):
+            method = 1 + (m + at) % 6
+            first_from(stream, at, lost_in_pattern(m, at), 0, method, b"ab-")
+
+
+def bytes_from_an_hour(stream, rng):
+    """Every byte value in the window that is found, after others that differ from it by
+    one, in the lowest bit or in the top bit.  With the lost-hour mark a pattern is
+    refused, so that those beside it are found alone."""
+    for c in range(128):
+        own = bytes([c, c ^ 128])
+        near = bytes([c, c ^ 1, c ^ 128, (c - 1) % 256, c ^ 129])
+        first_from(stream, c // 6 % 2, own, 0, 1 + c % 6, near + own[:: (1, -1)[c % 2]])
+    for method in METHODS:
+        first_from(stream, 0, b",", 0, method, b"\xad./,-")
+        first_from(stream, 1, b"\xad", 0, method, b"-,\xac\xad")
+
+
+def made_first(stream, rng):
+    """From a match or beside it, from anywhere, and from past the end."""
+    for _ in range(80):
+        m = rng.choice((rng.randrange(1, 5), rng.randrange(1, 10), rng.randrange(1, 65)))
+        pattern = pattern_of(rng, m, rng.randrange(1, 5))
+        k = rng.choice((0, rng.randrange(m), rng.randrange(min(m, 4))))
+        text = make_text(rng, pattern, k, rng.randrange(2 * m + 20))
+        text = losing(rng, text, rng.choice((0, 0, 5, 30)))
+        beside = ref.listed_positions(pattern, k, text) or [0]
+        near = max(rng.choice(beside) + rng.randrange(-2, 3), 0)
+        start = rng.choice((near, near, rng.randrange(len(text) + 3)))
+        first_from(stream, start, pattern, k, rng.choice(allowed_methods(pattern, k)), text)
+
+
 # --- All of them ----------------------------------------------------------------------------
 
 FAMILIES = (
@@ -2158,4 +2444,24 @@ FAMILIES = (
     sides_of_13,
     several_with_a_lost_hour,
     series_with_lost_hours,
+    sheet_from_each_hour,
+    hours_beside_matches,
+    far_hours,
+    lengths_from_an_hour,
+    every_k_from_an_hour,
+    only_the_last_window,
+    after_the_last_match,
+    most_looks_from_an_hour,
+    lost_hours_from_each_hour,
+    sums_from_an_hour,
+    stops_from_an_hour,
+    scans_past_the_end,
+    known_letters_from_an_hour,
+    hours_of_a_long_text,
+    edges_of_first,
+    limits_of_first,
+    widths_of_first,
+    first_with_a_lost_hour,
+    bytes_from_an_hour,
+    made_first,
 )

@@ -4,25 +4,27 @@ import itertools
 from collections import Counter
 
 import reference as ref
-from compare import METHODS, ORDERS, Coverage, candidates, windows_of, windows_of_method_6
+from compare import (
+    METHODS, ORDERS, SHEET, Coverage, candidates, looks_of, windows_of, windows_of_method_6,
+)
 from vectors_stream import (
-    EXACT, FEED, HAND, LOAD, MARKED, OPEN, REPORT, SAVE, SET_METHOD, SEVERAL, WHOLE, WIDTH,
-    Handed, Marked,
+    EXACT, FEED, FIRST, HAND, LOAD, MARKED, OPEN, REPORT, SAVE, SET_METHOD, SEVERAL, WHOLE,
+    WIDTH, First, Handed, Marked,
 )
 
 NAMES = {
     WHOLE: "whole search", OPEN: "open", FEED: "feed", SET_METHOD: "set method", SAVE: "save",
     LOAD: "load", REPORT: "report", WIDTH: "width", EXACT: "exact", SEVERAL: "several patterns",
-    MARKED: "marked sheet",
+    MARKED: "marked sheet", FIRST: "first match",
 }
 
-# Document 01, "When a call says no", and document 02, T-01, T-02 and T-07: the
-# numbers of each call.
+# Document 01, "When a call says no", and document 02, T-01, T-02, T-07 and T-08:
+# the numbers of each call.
 NUMBERS = {
     WHOLE: (*range(8), 13), OPEN: (*range(6), 13), FEED: (*range(10), 13),
     SET_METHOD: (0, 1, 2, 3, 4, 5, 9, 13), SAVE: (0, 1, 2, 3, 4, 5, 9, 10, 13),
     LOAD: (0, 1, 2, 3, 4, 5, 9, 13), SEVERAL: (0, 1, 2, 6, 7, 12, 13),
-    MARKED: (0, 1, 2, 3, 4, 5, 6, 7, 10, 13),
+    MARKED: (0, 1, 2, 3, 4, 5, 6, 7, 10, 13), FIRST: (*range(7), 13),
 }
 
 # The fewest cases of kinds that are easily thin.
@@ -77,13 +79,30 @@ FEWEST = {
     "several patterns, and a lost hour in a window that matches": 12,
     "sheets that show a lost hour": 20,
     "outputs of a record with a lost hour": 15,
+    "first matches where the search starts": 200,
+    "first matches that come later": 500,
+    "first matches past other windows by a scan that is left early": 100,
+    "first matches after a window that method 5 verifies in vain": 20,
+    "first matches after a window that method 6 verifies in vain": 35,
+    "first matches with a lost hour": 100,
+    "first matches in a text of 65,536 readings": 20,
+    "no match from the start on, and one before it": 300,
+    "no match at all, and windows from the start on": 25,
+    "no window from the start on": 300,
 }
 
 # What is beside the lost-hour mark: the next bytes, and others by a bit.
 BESIDE_LOST = (44, 46, 47, 41, 37, 61, 13, 109, 173)
 
+# Starts past the end that every method has, and others that some have.
+FAR = 2**32 - 1, 2**32, 2**63, 2**64 - 2, 2**64 - 1
+ALSO_FAR = (
+    255, 256, 2**16 - 1, 2**16, 2**32 - 2, 2**32 + 1, 2**63 - 1, 2**63 + 1, 2**64 - 3,
+    2**64 - 63, 2**64 - 64,
+)
+
 # The calls that refuse with 3, 4 and 5.
-MEASURING = WHOLE, OPEN, FEED, SET_METHOD, SAVE, LOAD, REPORT, MARKED
+MEASURING = WHOLE, OPEN, FEED, SET_METHOD, SAVE, LOAD, REPORT, MARKED, FIRST
 
 # --- The tests of each call, in their order ------------------------------------
 
@@ -145,6 +164,9 @@ def tests_of(op, arguments, search):
         limits = [(6, len(text) > 65536), (7, places < len(text))]
         short = handed.room < sheet_needed(handed.pattern, k, text)
         return terms_tests(handed.pattern, k, method) + limits + [(10, short)]
+    if op == FIRST:
+        handed, k, method, text = arguments
+        return terms_tests(handed.pattern, k, method) + [(6, len(text) > 65536)]
     if op == REPORT:
         method, k, pattern, _ = ref.parse_input(arguments[0]) or (1, 0, b"a", b"")
         bad = ref.parse_input(arguments[0]) is None
@@ -167,7 +189,7 @@ def measured_terms(op, arguments, search):
     if op == REPORT:
         parsed = ref.parse_input(arguments[0])
         return parsed and (parsed[2], parsed[1], parsed[0])
-    if op == MARKED:
+    if op in (MARKED, FIRST):
         return arguments[0].pattern, arguments[1], arguments[2]
     return None
 
@@ -210,6 +232,7 @@ EXAMPLES = {
     LOAD: ((ref.image_of(ref.BLANK),), ref.BLANK),
     SEVERAL: ((Handed(0, [1], b"a"), 0, b"", 0), ref.BLANK),
     MARKED: ((Marked(0, b"a"), 0, 1, b"", 0), ref.BLANK),
+    FIRST: ((First(0, b"a"), 0, 1, b""), ref.BLANK),
     REPORT: ((b"1 0 a\n",), ref.BLANK),
 }
 
@@ -240,6 +263,9 @@ class VectorCoverage(Coverage):
         self.known, self.lacking = set(), set()
         self.most_looks = 0
         self.beside_lost = set()
+        self.from_hours = set()
+        self.first_own, self.first_others = set(), set()
+        self.most_looks_first = 0
 
     def case(self, op, arguments, number, before):
         """A case, and the stored search before it."""
@@ -273,6 +299,8 @@ class VectorCoverage(Coverage):
             self.several(*arguments)
         elif op == MARKED and number in (0, 10):
             self.marked(number, *arguments)
+        elif op == FIRST and not number:
+            self.first(*arguments)
         terms = measured_terms(op, arguments, search)
         if terms and terms[2] in (2, 3, 4) and number in (0, 5):
             self.measured(op, number, *terms)
@@ -441,7 +469,7 @@ class VectorCoverage(Coverage):
             if ref.LOST in stored.tail[stored.tail_len :]:
                 self.beside_lost.add((NAMES[op], "lost past the tail's length"))
         record = None
-        if op in (WHOLE, MARKED):
+        if op in (WHOLE, MARKED, FIRST):
             record = arguments[3]
         elif op == FEED:
             record = ref.contents(stored).tail + arguments[0]
@@ -617,6 +645,137 @@ class VectorCoverage(Coverage):
             looks[method] = ref.by_steps(pattern, k, method, text)[1]
             unlike = len(looks) == len(METHODS) and len(set(looks.values())) > 1
             self.counts["one sheet by all six methods, with unlike looks"] += unlike
+
+    def first(self, handed, k, method, text):
+        """An accepted search for the first match."""
+        start, pattern = handed
+        m, n = len(pattern), len(text)
+        matches = ref.listed_positions(pattern, k, text)
+        after = [s for s in matches if s >= start]
+        self.start(pattern, k, method, text, start, bool(after))
+        self.outcome(method, n - m, start, matches, after)
+        if after:
+            s, window = after[0], text[after[0] : after[0] + m]
+            self.first_own |= set(pattern) & set(window)
+            before = ref.excess(text[s - 1 : s - 1 + m], pattern) if s > start else None
+            if (before, ref.excess(window, pattern)) == (k + 1, k):
+                self.from_hours.add(("method", method, "m", m, "k", k, "after an error more"))
+            self.counts["first matches with a lost hour"] += ref.LOST in window
+            self.counts["first matches in a text of 65,536 readings"] += n == 65536
+        if start <= n - m:
+            end = after[0] + m if after else n
+            self.way(pattern, k, method, text, start, end, bool(after))
+
+    def start(self, pattern, k, method, text, start, found):
+        """Where it begins."""
+        m, n = len(pattern), len(text)
+        for at, row in enumerate(SHEET):
+            if (pattern, k, text) == row[:3]:
+                self.from_hours.add(("row", at, "method", method, "from", start))
+        for place, at in (
+            ("position 0", 0), ("the last window", n - m), ("after the last window", n - m + 1),
+            ("the last reading", n - 1), ("the end", n), ("past the end", n + 1),
+        ):
+            if start == at and n >= m:
+                self.from_hours.add(("method", method, "from", place, found))
+        if start in FAR + ALSO_FAR:
+            self.from_hours |= {("from", start), ("method", method, "from", start)}
+        if n <= m + 1:
+            self.from_hours.add(("m", m, "readings", n - m, "from", start))
+
+    def outcome(self, method, last, start, matches, after):
+        """What it finds, and where the other matches are."""
+        first = after[0] if after else None
+        for kind, holds in (
+            ("at the start", first == start),
+            ("right after the start", first == start + 1),
+            ("later", after and first > start + 1),
+            ("the last window alone", after == [last] and start < last),
+            ("from right after a match", after and start - 1 in matches and first > start),
+            ("between two matches", after and matches[0] < start < first),
+            ("none from right after the last match", not after and start - 1 in matches[-1:]),
+            ("none after the last match", not after and matches and start <= last),
+            ("none at all", not matches and start <= last),
+            ("none in the last window, from it", not after and start == last),
+            ("no window", start > last),
+        ):
+            if holds:
+                self.from_hours.add(("method", method, kind))
+        for kind, holds in (
+            ("first matches where the search starts", first == start),
+            ("first matches that come later", after and first > start),
+            ("no match from the start on, and one before it", matches and not after),
+            ("no match at all, and windows from the start on", not matches and start <= last),
+            ("no window from the start on", start > last),
+        ):
+            self.counts[kind] += bool(holds)
+
+    def way(self, pattern, k, method, text, start, end, found):
+        """What it comes to from the start up to the window that is found, or up to the
+        end.  The looks are held to another description of them here."""
+        m, part = len(pattern), text[start:end]
+        looks = ref.steps_first(pattern, k, method, text, start)[1]
+        assert looks == looks_of(pattern, k, method, part), (pattern, k, method, text, start)
+        self.most_looks_first = max(self.most_looks_first, looks)
+        self.first_others |= set(part) - set(pattern) - {ref.LOST}
+        windows = list(windows_of(pattern, k, method, part))
+        if method in (2, 3, 4, 6):
+            self.left_early(m, method, windows, len(text) - m - start, found)
+        if method == 5:
+            self.sums_on_the_way(pattern, part, found)
+        if method == 6:
+            self.letters_on_the_way(windows, found)
+        lost = [s for s, _ in windows if ref.LOST in part[s : s + m]]
+        passed = lost[:-1] if found and lost[-1:] == [len(part) - m] else lost
+        for kind, holds in (
+            ("in the match at the start", found and lost and len(part) == m),
+            ("in a match that comes later", found and lost != passed and len(part) > m),
+            ("in a window before the match", found and passed),
+            ("before the start alone", ref.LOST in text[:start] and ref.LOST not in part),
+            ("after the match alone", found and ref.LOST in text[end:] and not lost),
+        ):
+            if holds:
+                self.from_hours.add(("method", method, "a lost hour", kind))
+
+    def left_early(self, m, method, windows, last, found):
+        """The scans of backward methods, by where they are left; those that go past other
+        windows, to the match or past the last window of the text."""
+        before = 0
+        for s, stop in windows:
+            if found and stop is None and s == windows[-1][0] and s > before:
+                self.from_hours.add(("method", method, "a match past other windows"))
+                kind = "first matches past other windows by a scan that is left early"
+                self.counts[kind] += 1
+            before = s + 1
+            if stop is not None:
+                self.from_hours.add(("method", method, "m", m, "left at", stop))
+                if s < last < s + stop:
+                    self.from_hours.add(("method", method, "past several windows and the last"))
+
+    def sums_on_the_way(self, pattern, part, found):
+        """The kind of each window that method 5 comes to, as for whole searches."""
+        m, exact = len(pattern), ref.heap_is_exact(pattern)
+        equal, last, in_vain = set(candidates(pattern, part)), len(part) - m, False
+        for s in range(last + 1):
+            match = found and s == last
+            kind = ref.LOST in part[s : s + m], s in equal, match
+            in_vain |= not match and (kind[0] or kind[1] and not exact)
+            place = "alone" if last == 0 else "at the start" if s == 0 else "later"
+            self.from_hours.add(("exact", exact, "lost, equal sum, match", kind, place))
+        kind = "first matches after a window that method 5 verifies in vain"
+        self.counts[kind] += found and in_vain
+
+    def letters_on_the_way(self, windows, found):
+        """Each window that method 6 comes to, and what came before it."""
+        before, kinds = "none", set()
+        for s, stop in windows:
+            match = found and s == windows[-1][0]
+            kind = "stop" if stop is not None else "match" if match else "failure"
+            self.from_hours.add(("method 6", kind, "after", before))
+            before = kind
+            kinds.add(kind)
+        in_vain = "first matches after a window that method 6 verifies in vain"
+        self.counts[in_vain] += {"failure", "match"} <= kinds
 
     def first_line(self, given):
         if ref.parse_input(given) and len(given) <= ref.LONGEST_INPUT:
@@ -798,7 +957,7 @@ class VectorCoverage(Coverage):
                 yield "nothing else, method", method, "k > 0", "m", m
             for c in BESIDE_LOST:
                 yield "reading", c, "method", method, "own", False
-            for op in (WHOLE, FEED, MARKED, REPORT):
+            for op in (WHOLE, FEED, MARKED, REPORT, FIRST):
                 yield "the example", NAMES[op], "method", method
             for at in range(3):
                 yield "a record of one window, method", method, "m", 3, "at", at
@@ -863,7 +1022,7 @@ class VectorCoverage(Coverage):
     def wanted_13(self):
         """By each call, by the place in the pattern and by the pattern of several; past
         the lengths it isn't one."""
-        for op in (WHOLE, OPEN, LOAD, MARKED, REPORT, FEED, SET_METHOD, SAVE):
+        for op in (WHOLE, OPEN, LOAD, MARKED, REPORT, FEED, SET_METHOD, SAVE, FIRST):
             for m in (1, 2, 3, 64):
                 every = {place_in(at, m) for at in (0, m // 2, m - 1)}
                 if op in (FEED, SET_METHOD, SAVE):
@@ -878,6 +1037,73 @@ class VectorCoverage(Coverage):
             yield NAMES[op], "lost past the tail's length"
         for number in (6, 11):
             yield "a first line with a lost hour", "number", number
+
+    def wanted_from_hours(self):
+        """The sheet's rows from each of their hours; both sides of the last window and of
+        the end, and starts far past it; a match at the start, beside it and far from it,
+        and none; every k of some m at its edge; texts beside m."""
+        for at, (pattern, k, text, _, _) in enumerate(SHEET):
+            for method, start in itertools.product(METHODS, range(len(text) + 1)):
+                if k == 0 or method in (1, 4):
+                    yield "row", at, "method", method, "from", start
+        for method in METHODS:
+            for place in ("position 0", "the last window"):
+                yield "method", method, "from", place, True
+            for place in (
+                "position 0", "the last window", "after the last window", "the last reading",
+                "the end", "past the end",
+            ):
+                yield "method", method, "from", place, False
+            for start in FAR:
+                yield "method", method, "from", start
+            for kind in (
+                "at the start", "right after the start", "later", "the last window alone",
+                "from right after a match", "between two matches",
+                "none from right after the last match", "none after the last match",
+                "none at all", "none in the last window, from it", "no window",
+            ):
+                yield "method", method, kind
+        for start in ALSO_FAR:
+            yield "from", start
+        for method in (1, 4):
+            for m in (1, 2, 3, 5, 63, 64):
+                for k in range(m) if m != 63 else (0, 1, 31, 61, 62):
+                    yield "method", method, "m", m, "k", k, "after an error more"
+        for m, more in itertools.product((1, 2, 63, 64), (-1, 0, 1)):
+            n = m + more
+            for start in {0, more, more + 1, n - 1, n, n + 1} - {-1}:
+                yield "m", m, "readings", more, "from", start
+
+    def wanted_on_the_way(self):
+        """Scans left at each place of a window, past other windows to the match and past
+        the end; lost hours in the match, before it, and where they do nothing; every
+        kind of window that method 5 can have, found and passed over; of method 6 each
+        kind after each."""
+        for method in (2, 3, 4, 6):
+            for m in (3, 5):
+                for at in range(m):
+                    if method != 3 or at == 0 or (m - at) % 2 == 0:
+                        yield "method", method, "m", m, "left at", at
+            yield "method", method, "a match past other windows"
+            yield "method", method, "past several windows and the last"
+        for method in METHODS:
+            for kind in (
+                "in the match at the start", "in a match that comes later",
+                "in a window before the match", "before the start alone",
+                "after the match alone",
+            ):
+                yield "method", method, "a lost hour", kind
+        for exact in (True, False):
+            for kind in itertools.product((True, False), repeat=3):
+                lost, equal, match = kind
+                possible = not (exact and lost and equal) and (lost or equal or not match)
+                if possible and not (exact and equal and not match):
+                    for place in ("alone", "at the start", "later"):
+                        if not (match and place == "at the start"):
+                            yield "exact", exact, "lost, equal sum, match", kind, place
+        for kind in ("stop", "match", "failure"):
+            for before in ("none", "stop", "failure"):
+                yield "method 6", kind, "after", before
 
     def gaps(self):
         missing = []
@@ -923,6 +1149,10 @@ class VectorCoverage(Coverage):
             for reached in wanted():
                 if reached not in self.beside_lost:
                     missing.append("lost hours: %s" % (reached,))
+        for wanted in (self.wanted_from_hours, self.wanted_on_the_way):
+            for reached in wanted():
+                if reached not in self.from_hours:
+                    missing.append("first match: %s" % (reached,))
         for order in ORDERS:
             number = 0 if order == (1, 2, 3, 4) else 9
             if (order, number) not in self.orders:
@@ -932,8 +1162,10 @@ class VectorCoverage(Coverage):
             missing.append("byte values")
         if self.known != letters or self.lacking != letters:
             missing.append("byte values of method 6")
+        if self.first_own != letters or self.first_others != letters:
+            missing.append("byte values of a first match")
         # The longest text and pattern, and every window verified.
-        if self.most_looks < 2 * 64 * (65536 - 64 + 1):
+        if min(self.most_looks, self.most_looks_first) < 2 * 64 * (65536 - 64 + 1):
             missing.append("the most looks")
         if min(self.sides.values()) == 0 or self.failed_verification == 0:
             missing.append("a length of text, or a failed verification")

@@ -32,9 +32,13 @@ Operations, their arguments, a and b, and what the digest is of:
     12 marked      text handed, u8 k, u8 method, text, u32 places
                    found, looks; the list, then the buffer, then the sheet's
                    length in 8 bytes
+    13 first       text handed, u8 k, u8 method, text
+                   1 if there is a match from the start on, else 0, looks; its
+                   position in 8 bytes, all of them 0 if there is none
 What is handed to 11 has u32 places of the list of pattern numbers, u8 count,
 that many u64 lengths, and then the bytes of the patterns; what is handed to 12
-has u32 bytes of the sheet's buffer, and then the pattern.
+has u32 bytes of the sheet's buffer, and then the pattern; what is handed to 13
+has u64 start, and then the pattern.
 The calls 2 to 6 work on one search, at first the blank one.  Place i of a list
 holds (i * 2654435761 + 12345) % 2^32 before the call, byte i of a buffer
 (i * 37 + 11) % 256.  A digest starts at 0 and takes in a byte as
@@ -49,7 +53,7 @@ from collections import namedtuple
 import reference as ref
 
 WHOLE, OPEN, FEED, SET_METHOD, SAVE, LOAD, HAND, REPORT, WIDTH, EXACT = range(1, 11)
-SEVERAL, MARKED = 11, 12
+SEVERAL, MARKED, FIRST = 11, 12, 13
 
 # Several patterns: the places of the list of their numbers, their lengths, and
 # their bytes.
@@ -57,6 +61,9 @@ Handed = namedtuple("Handed", "places lengths data")
 
 # A search with its marked sheet: the bytes of the sheet's buffer, and the pattern.
 Marked = namedtuple("Marked", "room pattern")
+
+# A search for the first match: the position from which on it is, and the pattern.
+First = namedtuple("First", "start pattern")
 
 # --- Texts --------------------------------------------------------------------
 
@@ -220,6 +227,16 @@ class Stream:
         digested = list_bytes(filled) + bytes(buffer) + struct.pack("<Q", length)
         return self.case(MARKED, arguments, number, found, looks, digested)
 
+    def first(self, handed, k, method, text):
+        text = as_text(text)
+        start, pattern = handed
+        number, position, looks = ref.first(pattern, k, method, text.value, start)
+        arguments = literal(struct.pack("<Q", start) + pattern).form
+        arguments += bytes([k, method]) + text.form
+        found = 0 if position is None else 1
+        digested = struct.pack("<Q", position or 0)
+        return self.case(FIRST, arguments, number, found, looks, digested)
+
 
 # --- Reading --------------------------------------------------------------------
 
@@ -245,6 +262,7 @@ ARGUMENTS = {
     MARKED: (
         ("marked", 304), ("number", 1), ("number", 1), ("text", 65537), ("places", 65537),
     ),
+    FIRST: (("first", 308), ("number", 1), ("number", 1), ("text", 65537)),
 }
 
 
@@ -295,6 +313,10 @@ class Reader:
     def marked(self, longest):
         front = Reader(self.text(longest).value)
         return Marked(front.limited(4, 65537), front.data[front.at :])
+
+    def first(self, longest):
+        front = Reader(self.text(longest).value)
+        return First(front.number(8), front.data[front.at :])
 
 
 def read_cases(data):

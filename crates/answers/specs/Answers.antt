@@ -1,11 +1,14 @@
 -- What each answer says in the terms of document 01, "When a call says no": the refusal's number, 0 where there is none, and the counts or the
 -- length, which a refusal leaves at 0.
 use Prim.Native.Nat.{ℕ}
+use mathlib.Core.Option.{Option, none, some}
 use Rattle.answers.specs.Numbers.{numberOf}
 use Rattle.answers.specs.declared.Answer.{Answer}
 use Rattle.answers.specs.declared.Answer.the-variants.{Listed, Refused}
 use Rattle.answers.specs.declared.SheetAnswer.{SheetAnswer}
 use Rattle.answers.specs.declared.SheetAnswer.the-variants as SheetAnswer
+use Rattle.answers.specs.declared.FirstAnswer.{FirstAnswer}
+use Rattle.answers.specs.declared.FirstAnswer.the-variants as FirstAnswer
 use Rattle.answers.specs.declared.Saving.{Saving}
 use Rattle.answers.specs.declared.Saving.the-variants as Saving
 
@@ -40,6 +43,23 @@ sheetInspections (SheetAnswer.Refused refusal) = 0
 abbrev pub sheetLength : SheetAnswer → ℕ
 sheetLength (SheetAnswer.Written found inspections len) = len
 sheetLength (SheetAnswer.Refused refusal) = 0
+
+-- ---- of a search for the first match from a given position on; without one, and on a refusal, there is no position
+
+abbrev pub firstNumber : FirstAnswer → ℕ
+firstNumber (FirstAnswer.Found position inspections) = 0
+firstNumber (FirstAnswer.Nothing inspections) = 0
+firstNumber (FirstAnswer.Refused refusal) = numberOf refusal
+
+abbrev pub firstPosition : FirstAnswer → Option ℕ
+firstPosition (FirstAnswer.Found position inspections) = some position
+firstPosition (FirstAnswer.Nothing inspections) = none
+firstPosition (FirstAnswer.Refused refusal) = none
+
+abbrev pub firstInspections : FirstAnswer → ℕ
+firstInspections (FirstAnswer.Found position inspections) = inspections
+firstInspections (FirstAnswer.Nothing inspections) = inspections
+firstInspections (FirstAnswer.Refused refusal) = 0
 
 -- ---- of a save
 

@@ -64,6 +64,13 @@ pub enum SheetAnswer {
     Refused(Refusal),
 }
 
+// What a search for the first match from a given position on answers (document 02, T-08): the position, where there is one, and the inspections made.
+pub enum FirstAnswer {
+    Found { position: usize, inspections: usize },
+    Nothing { inspections: usize },
+    Refused(Refusal),
+}
+
 // What a save answers: the image's length.
 pub enum Saving {
     Written(usize),

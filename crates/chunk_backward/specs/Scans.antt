@@ -1,4 +1,4 @@
--- The scan of a backward method, by its number, the driver of such scans, and what they go by: document 01, "The five methods", 2 to 4. Method 6,
+-- The scan of a backward method, by its number, what it goes by, and what it finds: document 01, "The five methods", 2 to 4. Method 6,
 -- which goes by other tables, has its scan by name.
 use mathlib.Core.Path.{_≡_}
 use mathlib.Core.Bool.{cond}
@@ -6,8 +6,8 @@ use mathlib.Core.List.{List}
 use Prim.Native.Nat.{ℕ, _-_, min}
 use lib.Dec.{eqb}
 use lib.ListN.{length}
-use Rattle.jumbled.specs.Match.{Bytes, starts}
-use Rattle.jumbled.specs.Scan.{Result, Scanned, backward}
+use Rattle.jumbled.specs.Match.{Bytes}
+use Rattle.jumbled.specs.Scan.{Scanned, scans, drivenInto}
 use Rattle.jumbled.specs.Fields.{layoutOf}
 use Rattle.jumbled.specs.Steps.{bamScan, bam2Scan, abamScan}
 use Rattle.table_packed.specs.Word.{Packed, OwnTops, Packable}
@@ -22,10 +22,6 @@ use Rattle.chunk_seam.specs.declared.Split.{Split}
 
 unfoldable pub scanOf : List ℕ → ℕ → ℕ → List ℕ → Scanned
 scanOf P k method = cond (eqb method 2) (bamScan P) (cond (eqb method 3) (bam2Scan P) (abamScan P k))
-
--- A driver over all window starts of a text
-abbrev pub backwardOver : (List ℕ → Scanned) → ℕ → List ℕ → Result
-backwardOver scanned m T = backward scanned m T 0 (starts m T) 0
 
 -- The word and the tables are those of the pattern P for a backward method. Method 4 alone goes by the top bits.
 pub record Tabled (P : List ℕ) (k method : ℕ) (word : Word) (units tops : List ℕ) : Type 0 where
@@ -48,10 +44,11 @@ restOf split searched =
       at = searched .at;
     }
 
--- All windows of the tail, which the seam begins with, and of the chunk after it were searched by a scan of windows of m bytes
+-- The windows of the tail, which the seam begins with, and of the chunk after it were searched by a scan of windows of m bytes, up to where the list is
+-- full
 abbrev pub FoundBy : (List ℕ → Scanned) → ℕ → (seam chunk : List ℕ) → Split → (before after : List ℕ) → SearchCounts → Type 0
 FoundBy scanned m seam chunk split before after r =
-    Found (backwardOver scanned m (joined split seam chunk)) (split .«over_tail» .base) before after r
+    Found (drivenInto (length before) (scans scanned) m (joined split seam chunk)) (split .«over_tail» .base) before after r
 
 -- and for P by the method
 abbrev pub FoundFor : List ℕ → (k method : ℕ) → (seam chunk : List ℕ) → Split → (before after : List ℕ) → SearchCounts → Type 0

@@ -5,10 +5,9 @@ use Prim.Native.Nat.{ℕ, zero, suc, _+_, _-_, _≤_, _<_}
 use native.Mathlib.Nat.{add-zero, zero-add, add-assoc}
 use native.Mathlib.Omega.{arith}
 use lib.ListN.{length, take}
-use Rattle.jumbled.specs.Match.{starts}
 use Rattle.jumbled.specs.Scan.{Result, nothing, Judged, forward}
-use Rattle.jumbled.proofs.Cuts.{_then_, moved, forward-cut, forward-primed, forward-agree}
-use Rattle.chunk_seam.proofs.Joins.{seam-agrees, chunk-agrees, moved-zero}
+use Rattle.jumbled.proofs.Cuts.{_then_, moved, moved-zero, forward-cut, forward-primed, forward-agree}
+use Rattle.chunk_seam.proofs.Joins.{seam-agrees, chunk-agrees}
 use Rattle.chunk_forward.specs.Starting.{primed}
 
 primed-then : (n : ℕ) (a b : Result) → primed n (a then b) ≡ primed n a then b
@@ -16,12 +15,12 @@ primed-then n a b =
     ap (λ (i : ℕ). record { occurrences = a .occurrences ++ b .occurrences; inspections = i }) (sym (add-assoc n (a .inspections) (b .inspections)))
 
 module _ (judged : List ℕ → Judged) (m : ℕ) (tail chunk seam : List ℕ) (reaching : seam ≡ tail ++ take (m - 1) chunk) where
-  pub forward-joined : (a b : ℕ) → 1 ≤ m → a + b ≡ starts m (tail ++ chunk) → 0 < a + b → a ≤ length tail → (0 < b → a ≡ length tail)
-      → forward judged m (tail ++ chunk) 0 (starts m (tail ++ chunk)) m
+  pub forward-joined : (a b : ℕ) → 1 ≤ m → 0 < a + b → a ≤ length tail → (0 < b → a ≡ length tail)
+      → forward judged m (tail ++ chunk) 0 (a + b) m
       ≡ primed (m - 1) (forward judged m seam 0 a 1) then moved (length tail) (forward judged m chunk 0 b 1)
   unfolding forward
-  forward-joined a b some all any inside full =
-      ap₂ (λ (n cost : ℕ). forward judged m (tail ++ chunk) 0 n cost) (sym all) (omega arith)
+  forward-joined a b some any inside full =
+      ap (forward judged m (tail ++ chunk) 0 (a + b)) (omega arith)
       ∙ forward-primed judged m (tail ++ chunk) 0 (a + b) (m - 1) any
       ∙ ap (primed (m - 1)) (forward-cut judged m (tail ++ chunk) 0 a b ∙ ap₂ _then_ first (second b full))
       ∙ primed-then (m - 1) (forward judged m seam 0 a 1) (moved (length tail) (forward judged m chunk 0 b 1))

@@ -4,7 +4,7 @@ use mathlib.Core.List.{List}
 use Prim.Native.Nat.{ℕ, _-_}
 use lib.ListN.{length}
 use Rattle.jumbled.specs.Match.{windowPrefix}
-use Rattle.jumbled.specs.Scan.{forward}
+use Rattle.jumbled.specs.Scan.{forward, judges, drivenInto}
 use Rattle.jumbled.specs.Steps.{countJudged}
 use Rattle.table_parikh.specs.Table.{allowances}
 use Rattle.lent.specs.declared.SearchCounts.{SearchCounts}
@@ -15,12 +15,12 @@ use Rattle.chunk_seam.specs.declared.Split.{Split}
 use Rattle.chunk_seam.specs.Joined.{joined}
 use Rattle.loop_count.specs.declared.Counted.{Counted}
 use Rattle.loop_forward.specs.Counting.{Counting}
-use Rattle.chunk_forward.specs.Starting.{forwardOver, primed, Startable}
+use Rattle.chunk_forward.specs.Starting.{primed, Startable}
 
--- The search over all of the tail and the chunk
+-- The search over the tail and the chunk, up to where the list is full
 abbrev pub CountFound : List ℕ → ℕ → List ℕ → List ℕ → Split → List ℕ → List ℕ → SearchCounts → Type 0
 CountFound P k seam chunk split before after r =
-    Found (forwardOver (countJudged P k) (length P) (joined split seam chunk)) (split .«over_tail» .base) before after r
+    Found (drivenInto (length before) (judges (countJudged P k)) (length P) (joined split seam chunk)) (split .«over_tail» .base) before after r
 
 -- ---- the windows of the seam
 

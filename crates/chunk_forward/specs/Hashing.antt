@@ -4,7 +4,7 @@ use mathlib.Core.List.{List}
 use Prim.Native.Nat.{ℕ, _-_}
 use lib.ListN.{length}
 use Rattle.jumbled.specs.Match.{windowPrefix}
-use Rattle.jumbled.specs.Scan.{forward}
+use Rattle.jumbled.specs.Scan.{forward, judges, drivenInto}
 use Rattle.jumbled.specs.Steps.{hcamJudged}
 use Rattle.table_parikh.specs.Table.{allowances}
 use Rattle.table_heap.specs.declared.Target.{Target}
@@ -17,12 +17,12 @@ use Rattle.chunk_seam.specs.declared.Split.{Split}
 use Rattle.chunk_seam.specs.Joined.{joined}
 use Rattle.loop_hcam.specs.declared.Hashed.{Hashed}
 use Rattle.loop_forward.specs.Hashing.{Summing}
-use Rattle.chunk_forward.specs.Starting.{forwardOver, primed, Startable}
+use Rattle.chunk_forward.specs.Starting.{primed, Startable}
 
--- The search over all of the tail and the chunk
+-- The search over the tail and the chunk, up to where the list is full
 abbrev pub HcamFound : List ℕ → List ℕ → List ℕ → Split → List ℕ → List ℕ → SearchCounts → Type 0
 HcamFound P seam chunk split before after r =
-    Found (forwardOver (hcamJudged P) (length P) (joined split seam chunk)) (split .«over_tail» .base) before after r
+    Found (drivenInto (length before) (judges (hcamJudged P)) (length P) (joined split seam chunk)) (split .«over_tail» .base) before after r
 
 -- ---- the windows of the seam
 

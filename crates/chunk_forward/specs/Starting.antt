@@ -1,19 +1,14 @@
--- What a forward method yields over all of a text, and what it asks and yields where it starts, in the seam.
+-- What a forward method asks of a tail followed by a chunk, and what it asks and yields where it starts, in the seam.
 use mathlib.Core.Path.{_≡_}
 use mathlib.Core.List.{List}
 use Prim.Native.Nat.{ℕ, _+_, _-_, _≤_}
 use lib.ListN.{length}
-use Rattle.jumbled.specs.Match.{starts}
-use Rattle.jumbled.specs.Scan.{Result, Judged, forward}
+use Rattle.jumbled.specs.Scan.{Result}
 use Rattle.table_parikh.specs.Table.{parikh}
 use Rattle.lent.specs.declared.Range.{Range}
 use Rattle.lent.specs.Loops.{Fitting}
 use Rattle.chunk_seam.specs.declared.Split.{Split}
 use Rattle.chunk_seam.specs.Joined.{Prepared}
-
--- A driver over all window starts of a text
-abbrev pub forwardOver : (List ℕ → Judged) → ℕ → List ℕ → Result
-forwardOver judged m T = forward judged m T 0 (starts m T) m
 
 -- The pattern's counts, and the tail and the chunk made ready for its search
 pub record ForwardReady (P counts seam chunk : List ℕ) (split : Split) (list : List ℕ) : Type 0 where

@@ -1,14 +1,13 @@
 -- A window of a tail followed by a chunk lies in the seam where it starts in the tail, and in the chunk where it does not.
 use mathlib.Core.Path.{_≡_, refl, sym, ap, ap₂, _∙_}
-use mathlib.Core.List.{List, [], _∷_, _++_, map}
+use mathlib.Core.List.{List, [], _∷_, _++_}
 use Prim.Native.Nat.{ℕ, zero, suc, _+_, _-_, _≤_, _<_}
 use native.Mathlib.Nat.{zero-add}
 use native.Mathlib.Omega.{arith}
 use lib.ListN.{length, take, drop, length-drop}
 use lib.Seq.{drop-append-le, drop-append-add, take-take}
 use Rattle.jumbled.specs.Match.{window}
-use Rattle.jumbled.specs.Scan.{Result}
-use Rattle.jumbled.proofs.Cuts.{moved, Agree}
+use Rattle.jumbled.proofs.Cuts.{Agree}
 
 -- only so much of what follows matters to the first m elements
 take-reach : (m j : ℕ) (A C : List ℕ) → m ≤ length A + j → take m (A ++ C) ≡ take m (A ++ take j C)
@@ -34,14 +33,6 @@ module _ (m : ℕ) (tail chunk seam : List ℕ) (reaching : seam ≡ tail ++ tak
 
   pub chunk-agrees : (left : ℕ) → Agree m (tail ++ chunk) (length tail) chunk 0 left
   chunk-agrees left i l = rw (zero-add i) (chunk-window i)
-
--- moved by 0, a result is as it was
-pub moved-zero : (r : Result) → moved 0 r ≡ r
-moved-zero r = ap (λ (l : List ℕ). record { occurrences = l; inspections = r .inspections }) (same (r .occurrences))
-  where
-    same : (l : List ℕ) → map (λ p. 0 + p) l ≡ l
-    same [] = refl
-    same (p ∷ l) = ap₂ (λ (q : ℕ) (t : List ℕ). q ∷ t) (zero-add p) (same l)
 
 -- all of a text's first window starts
 pub from-zero : {A : Type 0} (f : ℕ → ℕ → A) {first count : ℕ} → first ≡ 0 → f first (count - first) ≡ f 0 count

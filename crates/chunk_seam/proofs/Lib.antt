@@ -1,3 +1,4 @@
 pub mod Joins
 pub mod Prepared
 pub mod Seams
+pub mod Full

@@ -1,12 +1,14 @@
 -- A tail and a chunk made ready for the search: their ranges fit, and what is listed of the seam and then of the chunk is what was to be found.
 use mathlib.Core.Path.{_≡_, sym, ap, ap₂, _∙_}
 use mathlib.Core.List.{List, _++_}
+use mathlib.Core.Logic.{⊎-elim}
 use Prim.Native.Nat.{ℕ, _+_, _-_, _*_, _^_, _≤_, _<_, min}
 use native.Mathlib.Nat.{zero-add}
 use native.Mathlib.Omega.{arith}
 use lib.ListN.{length, take, length-append, length-take}
 use Rattle.jumbled.specs.Match.{starts}
 use Rattle.jumbled.specs.Scan.{Result}
+use Rattle.jumbled.proofs.Sums.{below-or-not}
 use Rattle.jumbled.proofs.Cuts.{_then_, moved}
 use Rattle.lent.specs.declared.Range.{Range}
 use Rattle.lent.specs.Found.{Found}
@@ -54,16 +56,25 @@ module _ {m : ℕ} {seam chunk : List ℕ} {split : Split} {list : List ℕ} (re
         numbered = omega arith;
       }
 
-  -- the list has a place for each
+  -- the list has a place for each,
+  pub tail-room : split .«over_tail» .end ≤ length list
+  tail-room =
+      ⊎-elim (λ (some : 0 < split .«over_tail» .end). let last = ready .joinable .room (split .«over_tail» .end - 1) (omega arith) (omega arith) in omega (arith, last))
+      (λ (none : split .«over_tail» .end ≤ 0). omega arith) (below-or-not 0 (split .«over_tail» .end))
+
   pub tail-places : split .«over_tail» .at + (split .«over_tail» .end - split .«over_tail» .first) ≤ length list
-  tail-places = omega arith
+  tail-places = omega (arith, tail-room)
+
+  -- and one at least
+  pub some-place : 0 < length list
+  some-place = ready .joinable .room 0 (omega arith) (omega (arith, ready .any))
 
   -- they were searched, and yield what `one` holds, at most one position each
   module _ (one : Result) (few : length (one .occurrences) ≤ split .«over_tail» .end) {middle : List ℕ} {at inspections : ℕ}
       (listed : Listed one (split .«over_tail») list middle at inspections) where
     -- there is a place for each
-    tail-room : length (one .occurrences) ≤ length list
-    tail-room = omega arith
+    one-room : length (one .occurrences) ≤ length list
+    one-room = omega (arith, tail-room)
 
     -- the windows that start in the chunk, from one of them on
     pub chunk-fitting : (first : ℕ) → first ≤ split .«over_chunk» .end → Fitting chunk m (onward split first at)
@@ -76,10 +87,10 @@ module _ {m : ℕ} {seam chunk : List ℕ} {split : Split} {list : List ℕ} (re
           numbered = omega arith;
         }
 
-    -- for which the list has places left
-    pub chunk-places : (first : ℕ) → at + (split .«over_chunk» .end - first) ≤ length middle
-    chunk-places first =
-        let same : length middle ≡ length list = listed-length (split .«over_tail») list one listed (omega (arith, tail-room)) in
+    -- for which the list has these places left
+    pub places-left : length middle - at ≡ length list - length (one .occurrences)
+    places-left =
+        let same : length middle ≡ length list = listed-length (split .«over_tail») list one listed (omega (arith, one-room)) in
         omega arith
 
     -- nothing is left to search
@@ -104,7 +115,7 @@ module _ {m : ℕ} {seam chunk : List ℕ} {split : Split} {list : List ℕ} (re
                 listed' .filled
                 ∙ ap₂ (λ (l : List ℕ) (n : ℕ). placed l n (shifted (split .«over_chunk» .base) (two .occurrences))) first-filled place
                 ∙ ap (λ (b : ℕ). placed (placed list 0 (shifted base (one .occurrences))) (0 + length (shifted base (one .occurrences))) (shifted b (two .occurrences))) (ready .parted .chunk-starts .based)
-                ∙ placed-placed list 0 (shifted base (one .occurrences)) (omega (arith, tail-room, length-shifted base (one .occurrences))) (shifted (base + tail) (two .occurrences))
+                ∙ placed-placed list 0 (shifted base (one .occurrences)) (omega (arith, one-room, length-shifted base (one .occurrences))) (shifted (base + tail) (two .occurrences))
                 ∙ ap (placed list 0) together;
             found = omega (arith, length-append (one .occurrences) (shifted tail (two .occurrences)), length-shifted tail (two .occurrences));
             inspections = omega arith;

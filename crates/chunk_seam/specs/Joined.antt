@@ -6,12 +6,13 @@ use lib.ListN.{length, take}
 use Rattle.lent.specs.declared.Range.{Range}
 use Rattle.chunk_seam.specs.declared.Split.{Split}
 
--- The tail is shorter than a window, every position fits 32 bits, and there is a place for each byte of the chunk
+-- The tail is shorter than a window, every position fits 32 bits, and the list has a place for each window that starts in the tail and for the first
+-- one in the chunk
 pub record Joinable (m : ℕ) (tail chunk : List ℕ) (base : ℕ) (list : List ℕ) : Type 0 where
   pub short : m ≤ 64
   pub tail-short : length tail < m
   pub numbered : base + (length tail + length chunk) ≤ 2 ^ 32
-  pub room : length chunk ≤ length list
+  pub room : (s : ℕ) → s ≤ length tail → s + m ≤ length tail + length chunk → s < length list
 
 -- ---- the tail and the chunk made ready for the search
 

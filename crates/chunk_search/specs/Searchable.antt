@@ -3,7 +3,7 @@ use mathlib.Core.Path.{_≡_}
 use mathlib.Core.List.{List}
 use Prim.Native.Nat.{ℕ, _<_}
 use lib.ListN.{length}
-use Rattle.jumbled.specs.Steps.{steps}
+use Rattle.jumbled.specs.Steps.{stepsInto}
 use Rattle.jumbled.specs.Refusals.{given, methodTests}
 use Rattle.table_parikh.specs.Table.{parikh}
 use Rattle.lent.specs.Found.{Found}
@@ -27,9 +27,9 @@ pub record SplitSearchable (P counts : List ℕ) (k method : ℕ) (seam chunk : 
   pub prepared : Prepared (length P) seam chunk split list
   pub taken : Taken P counts k method
 
--- The method's steps over a text were made
+-- The method's steps over a text were made, up to where the list is full
 abbrev pub Stepped : List ℕ → (k method : ℕ) → List ℕ → (base : ℕ) → (before after : List ℕ) → SearchCounts → Type 0
-Stepped P k method T base before after r = Found (steps P k method T) base before after r
+Stepped P k method T base before after r = Found (stepsInto (length before) P k method T) base before after r
 
 -- over the seam and then the chunk
 abbrev pub SplitStepped : List ℕ → (k method : ℕ) → (seam chunk : List ℕ) → Split → (before after : List ℕ) → SearchCounts → Type 0

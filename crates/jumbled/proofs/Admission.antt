@@ -11,7 +11,7 @@ use lib.ListN.{length}
 use borrow.Author.Tests.{leb-true, leb-false, ltb-true, ltb-false, lt-ltb, le-ltb, eqb-true, eqb-false, eq-eqb, ne-eqb, not-false}
 use Rattle.jumbled.specs.Match.{occurs, lostHour}
 use Rattle.jumbled.specs.Fields.{layoutOf, bits}
-use Rattle.jumbled.specs.Refusals.{Test, test, given, isMethod, exactOnly, lengthTests, lostTests, toleranceTests, knownTests, exactTests, widthTests, textTests, inputTests, placeTests, totalTests, tailLength, tailTests, bufferTests, lineTests, methodTests, patternTests, sizeTests, wholeTests, searchTests, chunkTests, requestTests, programTests}
+use Rattle.jumbled.specs.Refusals.{Test, test, given, isMethod, exactOnly, lengthTests, lostTests, toleranceTests, knownTests, exactTests, widthTests, textTests, inputTests, placeTests, totalTests, tailLength, tailTests, bufferTests, lineTests, methodTests, patternTests, sizeTests, wholeTests, firstTests, searchTests, chunkTests, requestTests, programTests}
 
 pub or-false : (a b : Bool) → (a || b) ≡ false → (a ≡ false) × (b ≡ false)
 or-false true b e = absurd (true≢false e)
@@ -311,6 +311,11 @@ pub size-fits : (bytes places : ℕ) → bytes ≤ 65536 → bytes ≤ places �
 unfolding sizeTests textTests placeTests given
 size-fits bytes places short room = rw (le-ltb 65536 bytes short, le-ltb places bytes room) refl
 
+-- a list with a place for each byte adds nothing to 6
+place-fits : (bytes places : ℕ) → bytes ≤ places → given (placeTests bytes places) ≡ 0
+unfolding placeTests given
+place-fits bytes places room = rw (le-ltb places bytes room) refl
+
 -- ---- the tests of whole search
 
 pub whole-numbered : (P : List ℕ) (k method bytes places : ℕ) → Numbered (wholeTests P k method bytes places)
@@ -328,6 +333,19 @@ unfolding wholeTests
 whole-taken P k method bytes places e =
     let parts = given-append-none (patternTests P k method) (sizeTests bytes places) (pattern-numbered P k method) e in
     record { pattern-right = parts .0; size = size-taken bytes places (parts .1) }
+
+-- ---- the tests of the first match from a given position on
+
+pub first-numbered : (P : List ℕ) (k method bytes : ℕ) → Numbered (firstTests P k method bytes)
+unfolding firstTests
+first-numbered P k method bytes = numbered-append (patternTests P k method) (textTests bytes) (pattern-numbered P k method) (text-numbered bytes)
+
+-- they are those of whole search, where that has a place for each byte
+pub first-as-whole : (P : List ℕ) (k method bytes places : ℕ) → bytes ≤ places → given (wholeTests P k method bytes places) ≡ given (firstTests P k method bytes)
+unfolding wholeTests sizeTests firstTests
+first-as-whole P k method bytes places room =
+    ap given (sym (append-assoc (patternTests P k method) (textTests bytes) (placeTests bytes places)))
+    ∙ given-first (patternTests P k method ++ textTests bytes) (placeTests bytes places) (first-numbered P k method bytes) (λ e. place-fits bytes places room)
 
 -- ---- 8
 

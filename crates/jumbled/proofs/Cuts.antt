@@ -1,16 +1,17 @@
 -- A driver may be cut at any window start, and depends on its windows' bytes alone: what a search that goes on from chunk to chunk rests on.
-use mathlib.Core.Path.{_≡_, refl, sym, ap, _∙_}
-use mathlib.Core.Bool.{Bool, true, false}
+use mathlib.Core.Path.{_≡_, refl, sym, ap, ap₂, _∙_}
+use mathlib.Core.Bool.{Bool, true, false, cond}
 use mathlib.Core.List.{List, [], _∷_, _++_, map}
 use mathlib.Core.Logic.{⊎-elim}
 use Prim.Native.Nat.{ℕ, zero, suc, _+_, _-_, _*_, _≤_, _<_, min, suc-le-suc}
 use native.Mathlib.Nat.{mul-suc, le-step, add-zero, add-suc, suc-add, add-assoc, zero-add, suc-sub-suc, zero-sub, sub-zero}
 use native.Mathlib.Omega.{arith}
-use lib.ListN.{length, getD, drop, length-take, length-append}
-use lib.Seq.{getD-at}
+use lib.Dec.{ltb}
+use lib.ListN.{length, getD, drop, length-take, length-append, length-map, List·getD-append}
+use lib.Seq.{getD-at, getD-append-add}
 use borrow.Author.Tests.{lt-ltb, le-ltb}
 use Rattle.jumbled.specs.Match.{window}
-use Rattle.jumbled.specs.Scan.{Result, nothing, note, Scanned, backward, standing, Judged, forward, through}
+use Rattle.jumbled.specs.Scan.{Result, nothing, note, Scanned, backward, standing, Judged, forward, Way, scans, judges, neither, driven, through}
 use Rattle.jumbled.proofs.Sums.{below-or-not}
 
 infixl 20 _then_
@@ -21,6 +22,14 @@ a then b = record { occurrences = a .occurrences ++ b .occurrences; inspections 
 -- positions with a number added to each
 abbrev pub moved : ℕ → Result → Result
 moved d r = record { occurrences = map (λ p. d + p) (r .occurrences); inspections = r .inspections }
+
+-- moved by 0, a result is as it was
+pub moved-zero : (r : Result) → moved 0 r ≡ r
+moved-zero r = ap (λ (l : List ℕ). record { occurrences = l; inspections = r .inspections }) (same (r .occurrences))
+  where
+    same : (l : List ℕ) → map (λ p. 0 + p) l ≡ l
+    same [] = refl
+    same (p ∷ l) = ap₂ (λ (q : ℕ) (t : List ℕ). q ∷ t) (zero-add p) (same l)
 
 note-then : (t : Bool) (s taken : ℕ) (a b : Result) → note t s taken (a then b) ≡ note t s taken a then b
 note-then true s taken a b = ap (λ (n : ℕ). record { occurrences = s ∷ (a .occurrences ++ b .occurrences); inspections = n }) (sym (add-assoc taken (a .inspections) (b .inspections)))
@@ -105,7 +114,19 @@ forward-within judged m T s (suc left) cost =
     let w : Judged = judged (window m T s) in
     note-within (w .listed) (cost + w .verification) (forward judged m T (suc s) left 1) (forward-within judged m T (suc s) left 1)
 
-within-count : {s left : ℕ} {l : List ℕ} → Within s left l → length l ≤ left
+pub driven-within : (w : Way) (m : ℕ) (T : List ℕ) (s left : ℕ) → Within s left (driven w m T s left .occurrences)
+driven-within (scans scanned) m T s left = backward-within scanned m T s left 0
+driven-within (judges judged) m T s left = forward-within judged m T s left m
+driven-within neither m T s left = none
+
+-- no window start, no position and no inspection
+pub driven-none : (w : Way) (m : ℕ) (T : List ℕ) (s left : ℕ) → left ≡ 0 → driven w m T s left ≡ nothing
+unfolding backward forward
+driven-none (scans scanned) m T s left e = rw e refl
+driven-none (judges judged) m T s left e = rw e refl
+driven-none neither m T s left e = refl
+
+pub within-count : {s left : ℕ} {l : List ℕ} → Within s left l → length l ≤ left
 within-count none = omega arith
 within-count (here h) = suc-le-suc (within-count h)
 within-count (later h) = le-step (within-count h)
@@ -154,6 +175,76 @@ unfolding through
 through-last before p after l s left places e q =
     rw (q, e, lt-ltb (length before) (length (before ++ (p ∷ after))) (omega (arith, length-append before (p ∷ after))), getD-at before p after 0 (length before) refl) refl
 
+-- the window at s is not listed
+pub through-later : {s left : ℕ} {l : List ℕ} → Within (suc s) left l → (places : ℕ)
+    → through (suc places) s (suc left) l ≡ suc (through (suc places) (suc s) left l)
+unfolding through
+through-later {s} {left} {l} h places =
+    ⊎-elim (λ (full : places < length l). let last = within-least h places full in rw (lt-ltb places (length l) full) (omega (arith, last .0)))
+    (λ (free : length l ≤ places). rw (le-ltb places (length l) free) refl) (below-or-not places (length l))
+
+-- the same positions further on
+pub through-moved : (d places s left : ℕ) (l : List ℕ) → through places (d + s) left (map (λ p. d + p) l) ≡ through places s left l
+unfolding through
+through-moved d zero s left l = refl
+through-moved d (suc places) s left l =
+    rw (length-map l (λ (p : ℕ). d + p))
+    (⊎-elim
+    (λ (full : places < length l). rw (lt-ltb places (length l) full, getD-moved l places full) (omega arith))
+    (λ (free : length l ≤ places). rw (le-ltb places (length l) free) refl) (below-or-not places (length l)))
+  where
+    getD-moved : (l : List ℕ) (i : ℕ) → i < length l → getD (map (λ p. d + p) l) i 0 ≡ d + getD l i 0
+    getD-moved [] i h = absurd (omega arith)
+    getD-moved (p ∷ l) zero h = refl
+    getD-moved (p ∷ l) (suc i) h = getD-moved l i (omega arith)
+
+-- two ranges, with a place for each window start of the first one
+pub through-cut : {s a b : ℕ} {A B : List ℕ} → Within s a A → Within (s + a) b B → (places : ℕ) → a ≤ places
+    → through places s (a + b) (A ++ B) ≡ a + through (places - length A) (s + a) b B
+unfolding through
+through-cut {s} {a} {b} {A} {B} one two zero room =
+    let none : a ≡ 0 = omega arith in
+    rw (zero-sub (length A)) (omega arith)
+through-cut {s} {a} {b} {A} {B} one two (suc places) room =
+    ⊎-elim first (λ (past : length A ≤ places). ⊎-elim (second past) (neither-full past) (below-or-not places (length (A ++ B)))) (below-or-not places (length A))
+  where
+    both : length (A ++ B) ≡ length A + length B
+    both = length-append A B
+
+    -- every window of the first range is listed, and takes the last place
+    first : places < length A → cond (ltb places (length (A ++ B))) (suc (getD (A ++ B) places 0) - s) (a + b) ≡ a + through (suc places - length A) (s + a) b B
+    first full =
+        let few = within-count one in
+        let all : suc places - length A ≡ 0 = omega arith in
+        let last = within-least one places full in
+        rw (all, lt-ltb places (length (A ++ B)) (omega (arith, both)), List·getD-append A B 0 places full) (omega (arith, last .0, last .1))
+
+    left-over : length A ≤ places → suc places - length A ≡ suc (places - length A)
+    left-over past = omega arith
+
+    second : length A ≤ places → places < length (A ++ B)
+        → cond (ltb places (length (A ++ B))) (suc (getD (A ++ B) places 0) - s) (a + b) ≡ a + through (suc places - length A) (s + a) b B
+    second past full =
+        let inside : places - length A < length B = omega (arith, both) in
+        let last = within-least two (places - length A) inside in
+        let place : getD (A ++ B) places 0 ≡ getD B (places - length A) 0 =
+        ap (λ (n : ℕ). getD (A ++ B) n 0) (omega arith) ∙ getD-append-add A B (places - length A) 0
+        in
+        rw (left-over past, lt-ltb places (length (A ++ B)) full, lt-ltb (places - length A) (length B) inside, place) (omega (arith, last .0))
+
+    neither-full : length A ≤ places → length (A ++ B) ≤ places
+        → cond (ltb places (length (A ++ B))) (suc (getD (A ++ B) places 0) - s) (a + b) ≡ a + through (suc places - length A) (s + a) b B
+    neither-full past free =
+        rw (left-over past, le-ltb places (length (A ++ B)) free, le-ltb (places - length A) (length B) (omega (arith, both))) refl
+
+-- the first window starts are passed over
+pub through-passed : (places s left d : ℕ) (l : List ℕ) → through places s left l - d ≡ through places (s + d) (left - d) l
+unfolding through
+through-passed zero s left d l = zero-sub d
+through-passed (suc places) s left d l =
+    ⊎-elim (λ (full : places < length l). rw (lt-ltb places (length l) full) (omega arith))
+    (λ (free : length l ≤ places). rw (le-ltb places (length l) free) refl) (below-or-not places (length l))
+
 -- ---- bounds on the inspections
 
 note-most : (t : Bool) (s taken most left : ℕ) (r : Result) → taken ≤ most → r .inspections ≤ most * left → note t s taken r .inspections ≤ most * suc left
@@ -182,6 +273,11 @@ forward-most judged m T most h s (suc left) =
     (forward-most judged m T most h (suc s) left)
 
 -- ---- two texts whose windows agree, those of one d places further on
+
+pub within-moved : (d : ℕ) {s left : ℕ} {l : List ℕ} → Within s left l → Within (d + s) left (map (λ p. d + p) l)
+within-moved d none = none
+within-moved d {s} (here h) = here (rw (add-suc d s) at (within-moved d h))
+within-moved d {s} (later h) = later (rw (add-suc d s) at (within-moved d h))
 
 moved-note : (d : ℕ) (t : Bool) (s taken : ℕ) (r : Result) → note t (d + s) taken (moved d r) ≡ moved d (note t s taken r)
 moved-note d true s taken r = refl
@@ -250,3 +346,11 @@ module _ (judged : List ℕ → Judged) (m : ℕ) (T : List ℕ) (d : ℕ) (U : 
       rw (agree-here m T d U s left h, ← add-suc d s)
       (ap (note (w .listed) (d + s) (cost + w .verification)) (forward-agree (suc s) left 1 (agree-later m T d U s left h))
       ∙ moved-note d (w .listed) s (cost + w .verification) (forward judged m U (suc s) left 1))
+
+-- ---- either way
+
+pub driven-agree : (w : Way) (m : ℕ) (T : List ℕ) (d : ℕ) (U : List ℕ) (s left : ℕ) → Agree m T d U s left
+    → driven w m T (d + s) left ≡ moved d (driven w m U s left)
+driven-agree (scans scanned) m T d U s left h = backward-agree scanned m T d U s left 0 h
+driven-agree (judges judged) m T d U s left h = forward-agree judged m T d U s left m h
+driven-agree neither m T d U s left h = refl

@@ -12,7 +12,7 @@ use borrow.Author.Tests.{le-ltb, ltb-false, ne-eqb}
 use Rattle.jumbled.specs.Match.{Bytes, cc, starts}
 use Rattle.jumbled.specs.Scan.{Result, singles, pairs}
 use Rattle.jumbled.specs.Fields.{lg, Layout, fieldCount, bamLayout, bam2Layout, layoutOf, widthOf, bits}
-use Rattle.jumbled.specs.Steps.{bamScan, bam2Scan, steps}
+use Rattle.jumbled.specs.Steps.{bamScan, bam2Scan, wayOf, steps}
 use Rattle.jumbled.specs.Refusals.{Test, test, given, lengthTests, lostTests, toleranceTests, knownTests, exactTests, widthTests, methodTests, patternTests}
 use Rattle.jumbled.specs.Former.{formerLayout, formerLayoutOf, packedSteps, formerSteps, formerMethodTests, formerPatternTests}
 use Rattle.jumbled.proofs.Sums.{sum-mono}
@@ -44,7 +44,7 @@ former-roomy : (q : ℕ) → q ≤ 2 → 0 < q → q ≤ 2 ^ (q - 1) → Roomy 0
 former-roomy q few some holds = letters-roomy (formerLayout q) q few former-below some holds
 
 pub steps-as-before : (P : List ℕ) (k method : ℕ) (T : List ℕ) → Bytes P → Bytes T → steps P k method T ≡ formerSteps P k method T
-unfolding steps formerSteps formerLayoutOf packedSteps bamScan bam2Scan
+unfolding steps wayOf formerSteps formerLayoutOf packedSteps bamScan bam2Scan
 steps-as-before P k zero T hP hT = refl
 steps-as-before P k (suc zero) T hP hT = refl
 steps-as-before P k (suc (suc zero)) T hP hT =

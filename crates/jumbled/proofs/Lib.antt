@@ -16,6 +16,7 @@ pub mod Admission
 pub mod Never
 pub mod Methods
 pub mod Positions
+pub mod First
 pub mod Former
 pub mod Sheet
 pub mod Lost

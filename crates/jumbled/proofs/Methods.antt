@@ -1,18 +1,18 @@
 -- The theorem of the methods: what the tests of open do not refuse lists exactly the matching positions (demand 2, on the definitions).
 use mathlib.Core.Path.{_≡_, refl}
 use mathlib.Core.List.{List, [], reverse}
-use Prim.Native.Nat.{ℕ, zero, suc, _≤_}
+use Prim.Native.Nat.{ℕ, zero, suc, _+_, _≤_}
 use native.Mathlib.Nat.{zero-add, le-of-eq, not-suc-le-zero}
 use native.Mathlib.Omega.{arith}
 use lib.Dec.{ltb}
 use lib.ListN.{length}
-use Rattle.jumbled.specs.Match.{Bytes, matches, starts, positions}
-use Rattle.jumbled.specs.Scan.{Scanned, singles, pairs, backward, Judged, forward}
+use Rattle.jumbled.specs.Match.{Bytes, matches, starts, select, positions}
+use Rattle.jumbled.specs.Scan.{Scanned, singles, pairs, Judged, Way, scans, judges, driven}
 use Rattle.jumbled.specs.Fields.{bamLayout, bam2Layout, abamLayout, overflows, errors}
-use Rattle.jumbled.specs.Steps.{countJudged, bamScan, bam2Scan, abamScan, hcamJudged, eblScan, steps}
+use Rattle.jumbled.specs.Steps.{countJudged, bamScan, bam2Scan, abamScan, wayOf, steps}
 use Rattle.jumbled.specs.Refusals.{given, exactOnly, patternTests}
 use Rattle.jumbled.proofs.Admission.{MethodTaken, admitted}
-use Rattle.jumbled.proofs.Drivers.{Sound, backward-lists, forward-lists}
+use Rattle.jumbled.proofs.Drivers.{Sound, matchesAt, backward-lists, forward-lists}
 use Rattle.jumbled.proofs.Scans.{scan-sound, scan-most, by-singles, by-pairs}
 use Rattle.jumbled.proofs.Overflow.{overflows-exact, errors-exact, bam-roomy, bam2-roomy, abam-roomy}
 use Rattle.jumbled.proofs.HeapSums.{hcam-judges}
@@ -50,39 +50,40 @@ unfolding abamScan
 abam-most P k W =
     omega (arith, scan-most (λ R. ltb k (errors P (abamLayout k) R)) (length P) 1 [] W (singles (reverse W)) (by-singles W))
 
--- ---- from the first window start on
+-- ---- each method's way
 
-module _ (P : List ℕ) (k : ℕ) (T : List ℕ) (hT : Bytes T) where
-  backward-positions : (scanned : List ℕ → Scanned) → Sound P k scanned
-      → backward scanned (length P) T 0 (starts (length P) T) 0 .occurrences ≡ positions P k T
-  unfolding positions
-  backward-positions scanned sound =
-      backward-lists P k T hT scanned sound 0 (starts (length P) T) 0 (le-of-eq (zero-add (starts (length P) T))) (λ d l. absurd (not-suc-le-zero l))
+-- What a way has to show: its scan is sound, or its judgement lists a window exactly when the window matches
+pub data SoundWay (P : List ℕ) (k : ℕ) : Way → Type 0 where
+  scanning : {scanned : List ℕ → Scanned} → Sound P k scanned → SoundWay P k (scans scanned)
+  judging : {judged : List ℕ → Judged} → ((W : List ℕ) → Bytes W → length W ≡ length P → judged W .listed ≡ matches P k W) → SoundWay P k (judges judged)
 
-  forward-positions : (judged : List ℕ → Judged) → ((W : List ℕ) → Bytes W → length W ≡ length P → judged W .listed ≡ matches P k W)
-      → (cost : ℕ) → forward judged (length P) T 0 (starts (length P) T) cost .occurrences ≡ positions P k T
-  unfolding positions
-  forward-positions judged sound cost =
-      forward-lists P k T hT judged sound 0 (starts (length P) T) cost (le-of-eq (zero-add (starts (length P) T)))
+sound-way : (P : List ℕ) (k method : ℕ) → Bytes P → MethodTaken P k method → SoundWay P k (wayOf P k method)
+unfolding wayOf countJudged exactOnly
+sound-way P k zero hP taken = absurd (not-suc-le-zero (taken .least))
+sound-way P k (suc zero) hP taken = judging (λ W b e. refl)
+sound-way P k (suc (suc zero)) hP taken = rw (taken .no-tolerance refl) (scanning (bam-sound P hP))
+sound-way P k (suc (suc (suc zero))) hP taken = rw (taken .no-tolerance refl) (scanning (bam2-sound P hP))
+sound-way P k (suc (suc (suc (suc zero)))) hP taken = scanning (abam-sound P k hP)
+sound-way P k (suc (suc (suc (suc (suc zero))))) hP taken = rw (taken .no-tolerance refl) (judging (hcam-judges P hP))
+sound-way P k (suc (suc (suc (suc (suc (suc zero)))))) hP taken = rw (taken .no-tolerance refl) (scanning (ebl-sound P))
+sound-way P k (suc (suc (suc (suc (suc (suc (suc n))))))) hP taken = absurd (let most = taken .most in omega arith)
+
+-- it lists the matching windows of any range of window starts
+sound-lists : (P : List ℕ) (k : ℕ) (T : List ℕ) → Bytes T → {w : Way} → SoundWay P k w → (s left : ℕ) → s + left ≤ starts (length P) T
+    → driven w (length P) T s left .occurrences ≡ select (matchesAt P k T) s left
+sound-lists P k T hT (scanning {scanned} sound) s left h = backward-lists P k T hT scanned sound s left 0 h (λ d l. absurd (not-suc-le-zero l))
+sound-lists P k T hT (judging {judged} sound) s left h = forward-lists P k T hT judged sound s left (length P) h
 
 -- ---- the theorem
 
-by-method : (P : List ℕ) (k method : ℕ) (T : List ℕ) → Bytes P → Bytes T → MethodTaken P k method → steps P k method T .occurrences ≡ positions P k T
-unfolding steps countJudged exactOnly
-by-method P k zero T hP hT taken = absurd (not-suc-le-zero (taken .least))
-by-method P k (suc zero) T hP hT taken = forward-positions P k T hT (countJudged P k) (λ W b e. refl) _
-by-method P k (suc (suc zero)) T hP hT taken =
-    rw (taken .no-tolerance refl) (backward-positions P 0 T hT (bamScan P) (bam-sound P hP))
-by-method P k (suc (suc (suc zero))) T hP hT taken =
-    rw (taken .no-tolerance refl) (backward-positions P 0 T hT (bam2Scan P) (bam2-sound P hP))
-by-method P k (suc (suc (suc (suc zero)))) T hP hT taken = backward-positions P k T hT (abamScan P k) (abam-sound P k hP)
-by-method P k (suc (suc (suc (suc (suc zero))))) T hP hT taken =
-    rw (taken .no-tolerance refl) (forward-positions P 0 T hT (hcamJudged P) (λ W b e. hcam-judges P hP W b e) _)
-by-method P k (suc (suc (suc (suc (suc (suc zero)))))) T hP hT taken =
-    rw (taken .no-tolerance refl) (backward-positions P 0 T hT (eblScan P) (ebl-sound P))
-by-method P k (suc (suc (suc (suc (suc (suc (suc n))))))) T hP hT taken = absurd (let most = taken .most in omega arith)
+-- Whatever the tests of open do not refuse: the positions of the method's steps over any range of window starts are those of the matching windows
+pub range-listed : (P : List ℕ) (k method : ℕ) (T : List ℕ) → Bytes P → Bytes T → given (patternTests P k method) ≡ 0 → (s left : ℕ) → s + left ≤ starts (length P) T
+    → driven (wayOf P k method) (length P) T s left .occurrences ≡ select (matchesAt P k T) s left
+range-listed P k method T hP hT accepted = sound-lists P k T hT (sound-way P k method hP (admitted P k method accepted .taken))
 
--- Whatever the tests of open do not refuse: the positions of the method's steps are exactly the listed positions
+-- and over all of a text they are exactly the listed positions
 pub methods-list : (P : List ℕ) (k method : ℕ) (T : List ℕ) → Bytes P → Bytes T → given (patternTests P k method) ≡ 0
     → steps P k method T .occurrences ≡ positions P k T
-methods-list P k method T hP hT accepted = by-method P k method T hP hT (admitted P k method accepted .taken)
+unfolding steps positions
+methods-list P k method T hP hT accepted =
+    range-listed P k method T hP hT accepted 0 (starts (length P) T) (le-of-eq (zero-add (starts (length P) T)))

@@ -1,4 +1,4 @@
--- Numbers that some tests never give; and that method 6 is never refused with 5 (document 02, T-04).
+-- Numbers that some tests never give: that method 6 is never refused with 5 (document 02, T-04), and a search without a list never with 7 (T-08).
 use mathlib.Core.Path.{_≡_, refl, sym, _∙_}
 use mathlib.Core.Bool.{Bool, true, false, cond, _&&_, true≢false}
 use mathlib.Core.List.{List, [], _∷_, _++_}
@@ -9,7 +9,7 @@ use lib.ListN.{length}
 use borrow.Author.Tests.{le-ltb}
 use Rattle.jumbled.specs.Match.{cc}
 use Rattle.jumbled.specs.Fields.{shared, fieldCount, noLayout, layoutOf, widthOf, bits}
-use Rattle.jumbled.specs.Refusals.{Test, test, given, isMethod, exactOnly, lengthTests, lostTests, toleranceTests, knownTests, exactTests, widthTests, textTests, inputTests, placeTests, totalTests, tailTests, formTests, bufferTests, lineTests, methodTests, patternTests, sizeTests, wholeTests, sheetTests, searchTests, chunkTests, requestTests, programTests}
+use Rattle.jumbled.specs.Refusals.{Test, test, given, isMethod, exactOnly, lengthTests, lostTests, toleranceTests, knownTests, exactTests, widthTests, textTests, inputTests, placeTests, totalTests, tailTests, formTests, bufferTests, lineTests, methodTests, patternTests, sizeTests, wholeTests, firstTests, sheetTests, searchTests, chunkTests, requestTests, programTests}
 use Rattle.jumbled.proofs.Sums.{sum-zeros}
 
 -- None of the tests with the number n applies
@@ -123,3 +123,15 @@ module _ (P : List ℕ) (k : ℕ) where
   pub program-not-5 : (bytes : ℕ) (badLine : Bool) → Never 5 (programTests bytes badLine P k 6)
   unfolding programTests requestTests inputTests lineTests
   program-not-5 bytes badLine = never-append (never-append (other (λ e. omega arith)) (other (λ e. omega arith))) pattern-not-5
+
+-- ---- 7: only the tests of a list have this number
+
+pub first-not-7 : (P : List ℕ) (k method bytes : ℕ) → Never 7 (firstTests P k method bytes)
+unfolding firstTests patternTests lengthTests lostTests toleranceTests methodTests knownTests exactTests widthTests textTests
+first-not-7 P k method bytes =
+    never-append
+    (never-append (other (λ e. omega arith))
+    (never-append (other (λ e. omega arith))
+    (never-append (other (λ e. omega arith))
+    (never-append (other (λ e. omega arith)) (never-append (other (λ e. omega arith)) (other (λ e. omega arith)))))))
+    (other (λ e. omega arith))

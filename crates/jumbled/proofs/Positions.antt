@@ -10,9 +10,10 @@ use native.Mathlib.Omega.{arith}
 use lib.ListN.{length, getD, List·getD-eq-default}
 use borrow.Author.Tests.{leb-true, le-leb}
 use Rattle.jumbled.specs.Match.{excess, matches, window, starts, select, positions}
-use Rattle.jumbled.specs.Scan.{Result, nothing, Judged, unverified, backward, forward}
-use Rattle.jumbled.specs.Steps.{countJudged, candidate, verified, hcamJudged, verifiedStarts, steps}
+use Rattle.jumbled.specs.Scan.{nothing, Judged, unverified, forward, driven}
+use Rattle.jumbled.specs.Steps.{countJudged, candidate, verified, hcamJudged, verifiedStarts, wayOf, steps, stepsInto}
 use Rattle.jumbled.proofs.Sums.{below-or-not}
+use Rattle.jumbled.proofs.Cuts.{driven-within, driven-none, through-room}
 use Rattle.jumbled.proofs.Selections.{select-few, select-inside}
 
 -- Each number is over those before it, and none is below `least`
@@ -96,7 +97,7 @@ module _ (P : List ℕ) (k : ℕ) (T : List ℕ) where
 -- ---- the forward methods make n inspections, and those of the verified windows besides; none where n < m
 
 -- where verifying a window takes c inspections, and the windows that pass the test are verified
-forward-inspections : (judged : List ℕ → Judged) (test : List ℕ → Bool) (c : ℕ) → ((W : List ℕ) → judged W .verification ≡ cond (test W) c 0)
+pub forward-inspections : (judged : List ℕ → Judged) (test : List ℕ → Bool) (c : ℕ) → ((W : List ℕ) → judged W .verification ≡ cond (test W) c 0)
     → (m : ℕ) (T : List ℕ) (s left cost : ℕ)
     → forward judged m T s (suc left) cost .inspections ≡ cost + left + c * length (select (λ i. test (window m T i)) s (suc left))
 unfolding forward select
@@ -130,7 +131,7 @@ all-starts P T h = omega arith
 
 -- method 1 verifies nothing: n
 pub count-inspections : (P : List ℕ) (k : ℕ) (T : List ℕ) → length P ≤ length T → steps P k 1 T .inspections ≡ length T
-unfolding steps countJudged
+unfolding steps wayOf countJudged
 count-inspections P k T h =
     rw (all-starts P T h)
     (forward-inspections (countJudged P k) (λ W. false) 0 (λ W. refl) (length P) T 0 (length T - length P) (length P) ∙ omega arith)
@@ -138,21 +139,23 @@ count-inspections P k T h =
 -- method 5: n, and m for each verified window
 pub hcam-inspections : (P : List ℕ) (k : ℕ) (T : List ℕ) → length P ≤ length T
     → steps P k 5 T .inspections ≡ length T + length P * length (verifiedStarts P T)
-unfolding steps verifiedStarts
+unfolding steps wayOf verifiedStarts
 hcam-inspections P k T h =
     rw (all-starts P T h)
     (forward-inspections (hcamJudged P) (verified P) (length P) (hcam-verification P) (length P) T 0 (length T - length P) (length P) ∙ omega arith)
 
-either : (t : Bool) (r : Result) → cond t r r ≡ r
-either true r = refl
-either false r = refl
-
--- no method lists or inspects anything where no window starts,
+-- no method lists or inspects anything where no window starts
 pub no-windows : (P : List ℕ) (k method : ℕ) (T : List ℕ) → starts (length P) T ≡ 0 → steps P k method T ≡ nothing
-unfolding steps forward backward
-no-windows P k method T empty = rw empty (simp either)
+unfolding steps
+no-windows P k method T empty = driven-none (wayOf P k method) (length P) T 0 (starts (length P) T) empty
 
--- which is where n < m
+-- A search that has a place for each window start goes through all of them
+pub steps-room : (places : ℕ) (P : List ℕ) (k method : ℕ) (T : List ℕ) → starts (length P) T ≤ places → stepsInto places P k method T ≡ steps P k method T
+unfolding stepsInto steps
+steps-room places P k method T room =
+    ap (driven (wayOf P k method) (length P) T 0) (through-room (driven-within (wayOf P k method) (length P) T 0 (starts (length P) T)) places room)
+
+-- No window starts where n < m
 pub no-inspections : (P : List ℕ) (k method : ℕ) (T : List ℕ) → length T < length P → steps P k method T ≡ nothing
 no-inspections P k method T h = no-windows P k method T (omega arith)
 

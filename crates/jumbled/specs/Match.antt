@@ -1,8 +1,10 @@
--- What a match is: document 01, "What a match is", as document 02, T-07, amends it; document 000, section 1.
+-- What a match is: document 01, "What a match is", as document 02, T-07, amends it; document 000, section 1. Of all matches the first from a given
+-- position on: document 02, T-08.
 -- A text, a pattern and a window are lists of bytes. Document 01 calls a byte a reading or a letter, and a text a record.
 use Prim.Native.Nat.{ℕ, zero, suc, _+_, _-_, _<_}
 use mathlib.Core.Bool.{Bool, false, cond, not}
 use mathlib.Core.List.{List, [], _∷_}
+use mathlib.Core.Option.{Option, none, some}
 use lib.Dec.{leb, eqb}
 use lib.ListN.{length, getD, take, drop}
 
@@ -77,3 +79,12 @@ select test s (suc count) = cond (test s) (s ∷ select test (suc s) count) (sel
 -- The positions to be listed: of the text's window starts those with a matching window
 unfoldable pub positions : List ℕ → ℕ → List ℕ → List ℕ
 positions P k T = select (λ s. matches P k (window (length P) T s)) 0 (starts (length P) T)
+
+-- The first of the numbers s, s + 1, ..., s + count - 1 that passes the test, or none
+unfoldable pub earliest : (ℕ → Bool) → ℕ → ℕ → Option ℕ
+earliest test s zero = none
+earliest test s (suc count) = cond (test s) (some s) (earliest test (suc s) count)
+
+-- The first match at or after a: of the text's window starts from a on the first with a matching window (document 02, T-08)
+unfoldable pub firstMatch : List ℕ → ℕ → List ℕ → ℕ → Option ℕ
+firstMatch P k T a = earliest (λ s. matches P k (window (length P) T s)) a (starts (length P) T - a)

@@ -153,6 +153,10 @@ sizeTests bytes places = textTests bytes ++ placeTests bytes places
 unfoldable pub wholeTests : List ℕ → ℕ → ℕ → (bytes places : ℕ) → List Test
 wholeTests P k method bytes places = patternTests P k method ++ sizeTests bytes places
 
+-- The first match at or after a given position (document 02, T-08), which has no list: those of open, then 6
+unfoldable pub firstTests : List ℕ → ℕ → ℕ → (bytes : ℕ) → List Test
+firstTests P k method bytes = patternTests P k method ++ textTests bytes
+
 -- A whole search and its sheet of so many bytes, for a buffer of so many places (document 02, T-02): those of whole search, then 10
 unfoldable pub sheetTests : List ℕ → ℕ → ℕ → (bytes places bufferPlaces bytesOnPaper : ℕ) → List Test
 sheetTests P k method bytes places bufferPlaces bytesOnPaper = wholeTests P k method bytes places ++ bufferTests bufferPlaces bytesOnPaper

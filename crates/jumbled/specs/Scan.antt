@@ -1,12 +1,12 @@
 -- The two ways of going through a text: document 01, "The five methods", the sentences above the list, and 1 and 5 for the sliding window;
--- document 02, T-04, for method 6, which goes through it as 2, 3 and 4 do.
+-- document 02, T-04, for method 6, which goes through it as 2, 3 and 4 do, and T-08 for a search that ends with the first window that it lists.
 -- An inspection is document 01's look: one byte taken by the steps.
 use Prim.Native.Nat.{ℕ, zero, suc, _+_, _-_}
 use mathlib.Core.Bool.{Bool, true, false, cond}
 use mathlib.Core.List.{List, [], _∷_, _++_}
 use lib.Dec.{ltb}
 use lib.ListN.{length, getD}
-use Rattle.jumbled.specs.Match.{window}
+use Rattle.jumbled.specs.Match.{window, starts}
 
 -- What the steps of a method yield
 pub record Result : Type 0 where
@@ -90,6 +90,47 @@ forward judged m T s (suc left) cost =
     let w : Judged = judged (window m T s) in
     note (w .listed) s (cost + w .verification) (forward judged m T (suc s) left 1)
 
+-- ---- either way
+
+-- How a method goes about a window: it scans it backward, or judges it when the window has slid there. A number that is no method's does neither.
+pub data Way : Type 0 where
+  scans : (List ℕ → Scanned) → Way
+  judges : (List ℕ → Judged) → Way
+  neither : Way
+
+-- The way's driver over `left` window starts from s on. Where a forward method begins it takes a whole window.
+abbrev pub driven : Way → ℕ → List ℕ → ℕ → ℕ → Result
+driven (scans scanned) m T s left = backward scanned m T s left 0
+driven (judges judged) m T s left = forward judged m T s left m
+driven neither m T s left = nothing
+
+-- ---- ended with the first window that is listed (document 02, T-08)
+
+-- One window's share; what the windows after it yield is there only where it is not listed itself
+abbrev pub noteFirst : Bool → ℕ → ℕ → Result → Result
+noteFirst listed s taken rest = note listed s taken (cond listed nothing rest)
+
+-- The driver of the backward methods, ended with the scan that lists its window
+unfoldable pub backwardFirst : (List ℕ → Scanned) → ℕ → List ℕ → ℕ → ℕ → ℕ → Result
+backwardFirst scanned m T s zero skip = nothing
+backwardFirst scanned m T s (suc left) (suc skip) = backwardFirst scanned m T (suc s) left skip
+backwardFirst scanned m T s (suc left) zero =
+    let w : Scanned = scanned (window m T s) in
+    noteFirst (w .listed) s (w .inspections) (backwardFirst scanned m T (suc s) left (w .offset))
+
+-- The driver of the forward methods, ended with the window that is listed
+unfoldable pub forwardFirst : (List ℕ → Judged) → ℕ → List ℕ → ℕ → ℕ → ℕ → Result
+forwardFirst judged m T s zero cost = nothing
+forwardFirst judged m T s (suc left) cost =
+    let w : Judged = judged (window m T s) in
+    noteFirst (w .listed) s (cost + w .verification) (forwardFirst judged m T (suc s) left 1)
+
+-- The one or the other, by the way
+abbrev pub drivenFirst : Way → ℕ → List ℕ → ℕ → ℕ → Result
+drivenFirst (scans scanned) m T s left = backwardFirst scanned m T s left 0
+drivenFirst (judges judged) m T s left = forwardFirst judged m T s left m
+drivenFirst neither m T s left = nothing
+
 -- ---- a search that ends where its places are full
 
 -- How many of the `left` window starts from s on a search goes through that would list these positions and has so many places for them: it
@@ -97,3 +138,7 @@ forward judged m T s (suc left) cost =
 unfoldable pub through : ℕ → ℕ → ℕ → List ℕ → ℕ
 through zero s left listed = 0
 through (suc places) s left listed = cond (ltb places (length listed)) (suc (getD listed places 0) - s) left
+
+-- The way's driver over all window starts of a text, ended where so many places are full
+abbrev pub drivenInto : (places : ℕ) → Way → ℕ → List ℕ → Result
+drivenInto places w m T = driven w m T 0 (through places 0 (starts m T) (driven w m T 0 (starts m T) .occurrences))

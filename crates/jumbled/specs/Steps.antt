@@ -1,13 +1,13 @@
--- The steps of the six methods: document 01, "The five methods", 1 to 5, and document 02, T-04, for 6 and T-07 for lost hours. The methods have
--- the papers' names:
+-- The steps of the six methods: document 01, "The five methods", 1 to 5, and document 02, T-04, for 6, T-07 for lost hours and T-08 for steps that
+-- begin at a given place and end with the first window listed. The methods have the papers' names:
 -- 1 count, 2 bam (packed backward), 3 bam2 (pairs backward), 4 abam (approximate backward), 5 hcam (heap values), 6 ebl (without counters).
-use Prim.Native.Nat.{ℕ, _+_}
+use Prim.Native.Nat.{ℕ, _+_, _-_}
 use mathlib.Core.Bool.{Bool, false, cond, not, _&&_, _||_}
 use mathlib.Core.List.{List, [], _∷_, reverse}
 use lib.Dec.{ltb, eqb}
 use lib.ListN.{length}
 use Rattle.jumbled.specs.Match.{occurs, lostHour, lost, matches, window, starts, select}
-use Rattle.jumbled.specs.Scan.{Result, nothing, Scanned, scan, singles, pairs, backward, Judged, unverified, forward}
+use Rattle.jumbled.specs.Scan.{Result, Scanned, scan, singles, pairs, Judged, unverified, Way, scans, judges, neither, driven, drivenFirst, drivenInto}
 use Rattle.jumbled.specs.Fields.{Layout, bamLayout, bam2Layout, abamLayout, overflows, errors}
 use Rattle.jumbled.specs.Heap.{heapSum, exact}
 
@@ -67,13 +67,26 @@ eblScan P W =
     let w : Scanned = scan (lacks P) (length P) [] (singles (reverse W)) in
     cond (w .listed) (verifiedAfter w P W) w
 
--- The steps of a method, by its number, over a text; a number that is no method's yields nothing
+-- A method's way, by its number
+unfoldable pub wayOf : List ℕ → ℕ → ℕ → Way
+wayOf P k method =
+    cond (eqb method 1) (judges (countJudged P k))
+    (cond (eqb method 2) (scans (bamScan P))
+    (cond (eqb method 3) (scans (bam2Scan P))
+    (cond (eqb method 4) (scans (abamScan P k))
+    (cond (eqb method 5) (judges (hcamJudged P))
+    (cond (eqb method 6) (scans (eblScan P))
+    neither)))))
+
+-- The steps of a method over a text, from its first window start to its last
 unfoldable pub steps : List ℕ → ℕ → ℕ → List ℕ → Result
-steps P k method T =
-    cond (eqb method 1) (forward (countJudged P k) (length P) T 0 (starts (length P) T) (length P))
-    (cond (eqb method 2) (backward (bamScan P) (length P) T 0 (starts (length P) T) 0)
-    (cond (eqb method 3) (backward (bam2Scan P) (length P) T 0 (starts (length P) T) 0)
-    (cond (eqb method 4) (backward (abamScan P k) (length P) T 0 (starts (length P) T) 0)
-    (cond (eqb method 5) (forward (hcamJudged P) (length P) T 0 (starts (length P) T) (length P))
-    (cond (eqb method 6) (backward (eblScan P) (length P) T 0 (starts (length P) T) 0)
-    nothing)))))
+steps P k method T = driven (wayOf P k method) (length P) T 0 (starts (length P) T)
+
+-- The steps begun at a and ended with the first window that they list (document 02, T-08). Where fewer than m bytes are left from a on, there is no
+-- window start, and they yield nothing.
+unfoldable pub stepsFrom : List ℕ → ℕ → ℕ → List ℕ → ℕ → Result
+stepsFrom P k method T a = drivenFirst (wayOf P k method) (length P) T a (starts (length P) T - a)
+
+-- The steps over a text of a search that ends where so many places are full
+unfoldable pub stepsInto : (places : ℕ) → List ℕ → ℕ → ℕ → List ℕ → Result
+stepsInto places P k method T = drivenInto places (wayOf P k method) (length P) T

@@ -16,7 +16,7 @@ use Rattle.jumbled.proofs.Sums.{below-or-not}
 use Rattle.chunk_backward.specs.Scans.{scanOf}
 use Rattle.chunk_backward.proofs.Scans.{scan-inspections}
 use Rattle.chunk_forward.proofs.Forwards.{hcam-few}
-use Rattle.chunk_search.proofs.Steps.{steps-1, steps-5, steps-6, steps-backward}
+use Rattle.chunk_search.proofs.Steps.{way-1, way-5, way-6, way-backward}
 
 -- the first window may cost more than the others
 forward-few : (judged : List ℕ → Judged) (m : ℕ) (T : List ℕ) → ((W : List ℕ) → judged W .verification ≤ 64)
@@ -32,25 +32,29 @@ count-few P k W = omega arith
 
 module _ (P : List ℕ) (k method : ℕ) (T : List ℕ) (request : Admitted P k method) where
   by-counting : method ≡ 1 → steps P k method T .inspections ≤ 128 * starts (length P) T + 64
+  unfolding steps
   by-counting e =
       let short = request .short in
-      rw (steps-1 P k method T e)
+      rw (way-1 P k method e)
       (omega (arith, forward-few (countJudged P k) (length P) T (count-few P k) 0 (starts (length P) T) (length P)))
 
   by-values : method ≡ 5 → steps P k method T .inspections ≤ 128 * starts (length P) T + 64
+  unfolding steps
   by-values e =
       let short = request .short in
-      rw (steps-5 P k method T e)
+      rw (way-5 P k method e)
       (omega (arith, forward-few (hcamJudged P) (length P) T (hcam-few P refl short) 0 (starts (length P) T) (length P)))
 
   by-scans : 2 ≤ method → method ≤ 4 → steps P k method T .inspections ≤ 128 * starts (length P) T + 64
+  unfolding steps
   by-scans least most =
-      rw (steps-backward P k method T least most)
+      rw (way-backward P k method least most)
       (omega (arith, backward-most (scanOf P k method) (length P) T 128 (scan-inspections P k method (request .short)) 0 (starts (length P) T) 0))
 
   by-reading : method ≡ 6 → steps P k method T .inspections ≤ 128 * starts (length P) T + 64
+  unfolding steps
   by-reading e =
-      rw (steps-6 P k method T e)
+      rw (way-6 P k method e)
       (omega (
         arith,
         backward-most (eblScan P) (length P) T 128 (λ W short. omega (arith, ebl-most P W, request .short)) 0 (starts (length P) T) 0,

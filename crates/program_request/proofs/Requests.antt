@@ -1,12 +1,11 @@
 -- What `parse` answers in each case is what the input asks for.
 use mathlib.Core.Path.{_≡_, refl, sym, ap, _∙_}
 use mathlib.Core.Bool.{Bool, true, false, not, _&&_}
-use mathlib.Core.List.{List, [], _∷_}
-use Prim.Native.Nat.{ℕ, zero, suc, _+_, _-_, _≤_, _<_}
-use native.Mathlib.Nat.{suc-sub-suc, sub-zero, zero-sub}
+use mathlib.Core.List.{List}
+use Prim.Native.Nat.{ℕ, _+_, _-_, _≤_, _<_}
 use native.Mathlib.Omega.{arith}
 use lib.ListN.{length, take, drop}
-use lib.Seq.{take-nil}
+use Rattle.jumbled.proofs.Windows.{drop-take}
 use borrow.Author.Tests.{lt-ltb, le-ltb}
 use Rattle.jumbled.specs.Refusals.{given, inputTests, lineTests, requestTests}
 use Rattle.program_request.specs.Line.{has, beforeFirst, afterFirst, goodLine}
@@ -18,13 +17,6 @@ use Rattle.program_request.proofs.Splits.{pattern-is}
 use Rattle.program_request.proofs.Texts.{less-first}
 use Rattle.program_request.proofs.Lines.{LineFields}
 use Rattle.program_request.proofs.Cuts.{before-take, after-drop, before-le, has-cut}
-
--- a part of the first t elements is that part of all
-drop-take : (U : List ℕ) (f t : ℕ) → drop f (take t U) ≡ take (t - f) (drop f U)
-drop-take U zero t = ap (λ (n : ℕ). take n U) (sym (sub-zero t))
-drop-take [] (suc f) t = ap (drop (suc f)) (take-nil t) ∙ sym (take-nil (t - suc f))
-drop-take (b ∷ U) (suc f) zero = ap (λ (n : ℕ). take n (drop f U)) (sym (zero-sub (suc f)))
-drop-take (b ∷ U) (suc f) (suc t) = drop-take U f t ∙ ap (λ (n : ℕ). take n (drop f U)) (sym (suc-sub-suc t f))
 
 not-good : (a b : Bool) → b ≡ false → not (a && b) ≡ true
 not-good true b e = ap not e

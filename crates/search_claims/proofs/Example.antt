@@ -9,7 +9,7 @@ use lib.ListN.{drop, replicate}
 use Rattle.jumbled.specs.Match.{cc, occurs, sum, evidence, beyond, excess, matches, select, positions}
 use Rattle.jumbled.specs.Scan.{scan, singles, backward}
 use Rattle.jumbled.specs.Fields.{first, letterWidth, fieldOf, layoutOf, widthOf, bits, startValue, valueOf, topSet, some, overflows}
-use Rattle.jumbled.specs.Steps.{bamScan, steps}
+use Rattle.jumbled.specs.Steps.{bamScan, wayOf, steps}
 use Rattle.jumbled.specs.Refusals.{given, isMethod, exactOnly, lengthTests, lostTests, toleranceTests, knownTests, exactTests, widthTests, textTests, placeTests, totalTests, tailTests, formTests, bufferTests, methodTests, patternTests, sizeTests, searchTests, chunkTests, feedTests, setMethodTests, saveTests, loadTests}
 use Rattle.lent.specs.Placed.{placed, shifted}
 use Rattle.image_form.specs.Image.{partsWith, lowFirst, contents, image}
@@ -77,7 +77,7 @@ record Calls : Type 0 where
   load-b : LoadsAs (imageAt 2 98) (searchAt 2 b)
 
 calls : Calls
-unfolding occurs given isMethod exactOnly lengthTests lostTests toleranceTests knownTests exactTests widthTests textTests placeTests totalTests tailTests formTests bufferTests methodTests patternTests sizeTests searchTests chunkTests feedTests setMethodTests saveTests loadTests cc sum evidence beyond excess matches select positions scan singles backward first letterWidth fieldOf layoutOf widthOf bits startValue valueOf topSet some overflows bamScan steps placed shifted lowFirst contents image fromLowFirst kindAt lengthOf endOf bodyOf kindsRight badForm handedTests handedNumber openNumber feedNumber setMethodNumber saveNumber partsTests loadNumber
+unfolding occurs given isMethod exactOnly lengthTests lostTests toleranceTests knownTests exactTests widthTests textTests placeTests totalTests tailTests formTests bufferTests methodTests patternTests sizeTests searchTests chunkTests feedTests setMethodTests saveTests loadTests cc sum evidence beyond excess matches select positions scan singles backward first letterWidth fieldOf layoutOf widthOf bits startValue valueOf topSet some overflows bamScan steps wayOf placed shifted lowFirst contents image fromLowFirst kindAt lengthOf endOf bodyOf kindsRight badForm handedTests handedNumber openNumber feedNumber setMethodNumber saveNumber partsTests loadNumber
 calls =
     record {
       fresh-search = record { number = refl; search = refl };

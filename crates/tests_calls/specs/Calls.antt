@@ -1,9 +1,10 @@
 -- Which call each kind of case asks for, and what the call comes to (tools/vectors_stream.py, "Operations"). What a call gives is said by its own
--- record: `Whole` of search_whole, `WholeSeveral` of several, `WholeSheet` of sheet, and `Opened`, `Feeds`, `SetsMethod`, `Saves` and `Loads` of
--- search.
+-- record: `Whole` of search_whole, `WholeSeveral` of several, `WholeSheet` of sheet, `AtOrAfter` of first, and `Opened`, `Feeds`, `SetsMethod`,
+-- `Saves` and `Loads` of search.
 use mathlib.Core.Path.{_≡_}
 use mathlib.Core.Bool.{cond}
 use mathlib.Core.List.{List, [], _++_}
+use mathlib.Core.Option.{Option·elim, Option·getD}
 use Prim.Native.Nat.{ℕ, min}
 use lib.Dec.{eqb, ltb}
 use lib.ListN.{length}
@@ -13,13 +14,16 @@ use Rattle.jumbled.specs.Heap.{exact}
 use Rattle.answers.specs.Numbers.{admissionNumber}
 use Rattle.answers.specs.Answers.{answerNumber, answerFound, answerInspections, savingNumber, savingLength}
 use Rattle.answers.specs.Answers.{sheetNumber, sheetFound, sheetInspections, sheetLength}
+use Rattle.answers.specs.Answers.{firstNumber, firstPosition, firstInspections}
 use Rattle.answers.specs.declared.Answer.{Answer}
 use Rattle.answers.specs.declared.SheetAnswer.{SheetAnswer}
+use Rattle.answers.specs.declared.FirstAnswer.{FirstAnswer}
 use Rattle.image_form.specs.Image.{lowFirst}
 use Rattle.table_parikh.specs.Table.{tabulate}
 use Rattle.search_whole.specs.Whole.{Whole}
 use Rattle.several.specs.Whole.{WholeSeveral}
 use Rattle.sheet.specs.Whole.{WholeSheet}
+use Rattle.first.specs.Call.{AtOrAfter}
 use Rattle.search.specs.declared.Search.{Search}
 use Rattle.search.specs.declared.SearchResult.{SearchResult}
 use Rattle.search.specs.declared.FeedResult.{FeedResult}
@@ -28,7 +32,7 @@ use Rattle.search.specs.Calls.{Opened, Feeds, SetsMethod, Saves, Loads}
 use Rattle.program_report.specs.Output.{output}
 use Rattle.tests_stream.specs.Fillings.{knownPlace, knownByte}
 use Rattle.tests_stream.specs.Cases.{fieldsOf}
-use Rattle.tests_stream.specs.Patterns.{lentPlaces, patternLengths, patternBytes, markedPattern}
+use Rattle.tests_stream.specs.Patterns.{lentPlaces, patternLengths, patternBytes, markedPattern, startPosition, patternAfterStart}
 use Rattle.tests_stream.specs.declared.cases.Case.{Case}
 use Rattle.tests_outcomes.specs.Digests.{digest, listBytes}
 use Rattle.tests_outcomes.specs.Outcomes.{outcomeOf}
@@ -59,6 +63,12 @@ answerOutcome digested answer = outcomeOf (answerNumber answer) (answerFound ans
 abbrev pub sheetOutcome : List ℕ → SheetAnswer → Outcome
 sheetOutcome U answer =
     outcomeOf (sheetNumber answer) (sheetFound answer) (sheetInspections answer) (digest 0 (U ++ lowFirst 8 (sheetLength answer)))
+
+-- a search for the first match: 1 where there is one, else 0, and the digest of its position, which counts as 0 where there is none
+abbrev pub firstOutcome : FirstAnswer → Outcome
+firstOutcome answer =
+    outcomeOf (firstNumber answer) (Option·elim (firstPosition answer) 0 (λ position. 1)) (firstInspections answer)
+    (digest 0 (lowFirst 8 (Option·getD (firstPosition answer) 0)))
 
 -- the digest of the bytes that a call left in a list or a buffer, and then of the search
 abbrev pub digestWith : List ℕ → Search → ℕ
@@ -107,6 +117,10 @@ pub record MarkedMade (handed : List ℕ) (k method : ℕ) (T before after : Lis
       (sheetOutcome (listBytes after ++ buffer))
       got
 
+-- A search for the first match of the pattern that a case hands over, from the position on that stands before it
+abbrev pub FirstMade : (handed : List ℕ) (k method : ℕ) (T : List ℕ) → Outcome → Type 0
+FirstMade handed k method T got = Came (AtOrAfter (patternAfterStart handed) k method T (startPosition handed)) firstOutcome got
+
 -- mixlist's output: its length, and the digest of it
 unfoldable pub reportOutcome : List ℕ → Outcome
 reportOutcome input = outcomeOf 0 (length (output input)) 0 (digest 0 (output input))
@@ -119,17 +133,18 @@ widthNumber P k method = cond (ltb 64 (length P)) 0 (cond (ltb 64 k) 0 (bits P (
 unfoldable pub exactNumber : List ℕ → ℕ
 exactNumber P = cond (ltb 64 (length P)) 0 (bit (exact P))
 
--- The calls that no search is handed to, by the kind of the case: whole search (1), mixlist (8), the bits (9), exact (10), several patterns (11) and a
--- search with its marked sheet (12). Only the three that search a text change the list.
+-- The calls that no search is handed to, by the kind of the case: whole search (1), mixlist (8), the bits (9), exact (10), several patterns (11), a
+-- search with its marked sheet (12) and the first match (13). Only 1, 11 and 12, which list what they find, change the list.
 unfoldable pub OutcomeMade : (op : ℕ) (P : List ℕ) (k method : ℕ) (T before after : List ℕ) → Outcome → Type 0
 OutcomeMade op P k method T before after got =
     cond (eqb op 1) (Came (Whole P k method T before after) (answerOutcome (digest 0 (listBytes after))) got)
     (cond (eqb op 11) (SeveralMade P k T before after got)
     (cond (eqb op 12) (MarkedMade P k method T before after got)
+    (cond (eqb op 13) ((after ≡ before) × FirstMade P k method T got)
     ((after ≡ before)
     × (got
     ≡ cond (eqb op 8) (reportOutcome T)
-    (cond (eqb op 9) (numberOutcome (widthNumber P k method)) (numberOutcome (exactNumber P)))))))
+    (cond (eqb op 9) (numberOutcome (widthNumber P k method)) (numberOutcome (exactNumber P))))))))
 
 -- Such a call leaves the search as it was
 pub record Beside (Made : Outcome → Type 0) (s : Search) (called : Called) : Type 0 where

@@ -6,7 +6,8 @@ ghost use Rattle.answers.specs.Numbers.{admissionNumber};
 ghost use Rattle.answers.specs.Answers.{answerNumber, answerFound, answerInspections, savingNumber, savingLength};
 ghost use Rattle.tests_outcomes.specs.Digests.{Digested};
 ghost use Rattle.tests_outcomes.specs.Outcomes.{outcomeOf};
-ghost use Rattle.tests_calls.specs.Calls.{sheetOutcome};
+ghost use Rattle.tests_calls.specs.Calls.{sheetOutcome, firstOutcome};
+use answers::FirstAnswer;
 use answers::SheetAnswer;
 use search::Admission;
 use search::Answer;
@@ -96,6 +97,36 @@ pub fn marked(answer: SheetAnswer, digest: u64) -> Outcome
             a: found as u64,
             b: inspections as u64,
             digest: digest_number(digest, len as u64, 8),
+        },
+    }
+}
+
+// What a search for the first match answered: 1 where there is one, and the inspections. The position, for which no number is left, is digested; it
+// counts as 0 where there is none.
+pub fn first_answered(answer: FirstAnswer) -> Outcome
+    ensures { λ r. ⌜ r ≡ firstOutcome answer ⌝ }
+{
+    match answer {
+        FirstAnswer::Refused(refusal) => Outcome {
+            number: answers::number_of(refusal) as u64,
+            a: 0,
+            b: 0,
+            digest: digest_number(0, 0, 8),
+        },
+        FirstAnswer::Nothing { inspections } => Outcome {
+            number: 0,
+            a: 0,
+            b: inspections as u64,
+            digest: digest_number(0, 0, 8),
+        },
+        FirstAnswer::Found {
+            position,
+            inspections,
+        } => Outcome {
+            number: 0,
+            a: 1,
+            b: inspections as u64,
+            digest: digest_number(0, position as u64, 8),
         },
     }
 }

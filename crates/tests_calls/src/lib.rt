@@ -9,7 +9,7 @@ ghost use Rattle.several.specs.Whole.{WholeSeveral};
 ghost use Rattle.sheet.specs.Whole.{WholeSheet};
 ghost use Rattle.tests_outcomes.specs.Digests.{Digested, digest, listBytes};
 ghost use Rattle.tests_calls.specs.Calls.{Came, numberOutcome, answerOutcome, admissionCalled, feedCalled, saveCalled, SaveMade, knownBuffer};
-ghost use Rattle.tests_calls.specs.Calls.{SeveralMade, sheetOutcome, MarkedMade, reportOutcome, widthNumber, exactNumber};
+ghost use Rattle.tests_calls.specs.Calls.{SeveralMade, sheetOutcome, MarkedMade, FirstMade, reportOutcome, widthNumber, exactNumber};
 ghost use Rattle.tests_calls.specs.Calls.{OutcomeMade, CallMade};
 
 mod from_answers;
@@ -17,6 +17,7 @@ mod searches;
 
 use from_answers::admitted;
 use from_answers::answered;
+use from_answers::first_answered;
 use from_answers::marked;
 use from_answers::saved;
 use program_report::OUTPUT_ROOM;
@@ -39,8 +40,10 @@ use tests_stream::list_room;
 use tests_stream::patterns::MOST_LENGTHS;
 use tests_stream::patterns::lent_places;
 use tests_stream::patterns::marked_pattern;
+use tests_stream::patterns::pattern_after_start;
 use tests_stream::patterns::pattern_bytes;
 use tests_stream::patterns::read_lengths;
+use tests_stream::patterns::start_position;
 
 // The longest buffer of a save.
 const LONGEST_IMAGE: usize = 512;
@@ -188,6 +191,15 @@ fn marked_into(
     marked(answer, digest_bytes(digest_list(0, list), buffer))
 }
 
+// Searches for the first match from a position on. No list is lent.
+fn call_first(handed: &[u8], k: u8, method: u8, text: &[u8]) -> Outcome
+    ensures { λ r. ⌜ FirstMade (now (handed .entry)) k method (now (text .entry)) r ⌝ }
+{
+    let from = start_position(handed);
+    let answer = first::at_or_after(pattern_after_start(handed), k, method, text, from);
+    first_answered(answer)
+}
+
 // A buffer for every output of mixlist's function.
 fn report_room() -> [u8; OUTPUT_ROOM]
     ensures { λ r. ⌜ (r ≡ replicate 98560 0) × (98560 ≡ length r) ⌝ }
@@ -258,6 +270,7 @@ fn call_without(op: u8, pattern: &[u8], k: u8, method: u8, text: &[u8], list: &m
         9 => number_outcome(width_of(pattern, k, method)),
         11 => call_several(pattern, k, text, list),
         12 => call_marked(pattern, k, method, text, list),
+        13 => call_first(pattern, k, method, text),
         _ => number_outcome(exact(pattern)),
     }
 }

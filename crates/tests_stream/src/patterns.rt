@@ -1,11 +1,12 @@
 // The text of a pattern in the cases whose call has further arguments (tools/vectors_stream.py). For several patterns: the places of the list of their
-// numbers, their lengths, and their bytes. For a search with its marked sheet: the bytes of its buffer, and the pattern.
+// numbers, their lengths, and their bytes. For a search with its marked sheet: the bytes of its buffer, and the pattern. For the first match: the
+// position from which on it is sought, and the pattern.
 ghost use mathlib.Core.Path.{_≡_};
 ghost use Prim.Native.Nat.{_≤_};
 ghost use lib.ListN.{length, drop};
 ghost use Rattle.tests_stream.specs.Fillings.{Filled};
 ghost use Rattle.tests_stream.specs.Reading.{numberAt};
-ghost use Rattle.tests_stream.specs.Patterns.{lentPlaces, lengthCount, lengthAt, patternBytes, markedPattern};
+ghost use Rattle.tests_stream.specs.Patterns.{lentPlaces, lengthCount, lengthAt, patternBytes, markedPattern, startPosition, patternAfterStart};
 use crate::read_number;
 
 // The most lengths that a case hands over.
@@ -72,4 +73,18 @@ pub fn marked_pattern(handed: &[u8]) -> &[u8]
     ensures { λ r. ⌜ now r ≡ markedPattern (now (handed .entry)) ⌝ }
 {
     bytes_from(handed, 4)
+}
+
+// Where the search for the first match begins: any number of 8 bytes, also one past every text.
+pub fn start_position(handed: &[u8]) -> usize
+    ensures { λ r. ⌜ r ≡ startPosition (now (handed .entry)) ⌝ }
+{
+    number_in(handed, 0, 8, 18446744073709551615)
+}
+
+// Its pattern.
+pub fn pattern_after_start(handed: &[u8]) -> &[u8]
+    ensures { λ r. ⌜ now r ≡ patternAfterStart (now (handed .entry)) ⌝ }
+{
+    bytes_from(handed, 8)
 }

@@ -20,7 +20,7 @@ use tests_stream::fill_list;
 use tests_stream::list_room;
 
 // The longest stream; what follows isn't read.
-const LONGEST_STREAM: usize = 786432;
+const LONGEST_STREAM: usize = 1048576;
 
 // A case that was run: what its call came to, what is stored, the search that it left, and the place after it.
 struct Step {
@@ -118,7 +118,7 @@ fn run(stream: &[u8]) -> Tally
 
 // Room for the longest stream. Its length comes by a law, since the prover would count the bytes one by one.
 fn stream_room() -> [u8; LONGEST_STREAM]
-    ensures { λ r. ⌜ (r ≡ replicate 786432 0) × (786432 ≡ length r) ⌝ }
+    ensures { λ r. ⌜ (r ≡ replicate 1048576 0) × (1048576 ≡ length r) ⌝ }
 {
     [0; LONGEST_STREAM]
 }

@@ -7,13 +7,13 @@ use Rattle.jumbled.specs.Scan.{Judged}
 use Rattle.jumbled.specs.Steps.{countJudged}
 use Rattle.chunk_seam.specs.declared.Split.{Split}
 use Rattle.chunk_seam.proofs.Prepared.{onward}
-use Rattle.loop_forward.proofs.Progress.{every-listed}
+use Rattle.loop_forward.specs.Windows.{Ended}
 use Rattle.loop_count.specs.declared.Counted.{Counted}
 use Rattle.loop_count.specs.Counting.{CountSearchable}
 use Rattle.table_parikh.specs.Table.{allowances}
 use Rattle.chunk_seam.specs.Joined.{Prepared}
 use Rattle.chunk_forward.specs.Counting.{CountableSeam, CountedSeam}
-use Rattle.chunk_forward.proofs.Forwards.{count-few, startable, prefix-on, forward-one, forward-two, forward-fitting, forward-places, forward-inspections}
+use Rattle.chunk_forward.proofs.Forwards.{count-few, startable, prefix-on, forward-one, forward-two, forward-fitting, forward-inspections}
 use Rattle.chunk_forward.proofs.count_chunk.Statement.{statement}
 use Rattle.chunk_forward.proofs.count_chunk.Tie as tie
 
@@ -49,6 +49,24 @@ seam-of c = c .before .before .before .before .before .before .before
 abbrev judged : tie.Start → List ℕ → Judged
 judged start = countJudged (start .args .pattern .now) (start .args .k)
 
+-- what the searches of the seam and of the chunk say
+seam-done : (s : tie.After-count-seam) → let start = start-of (table-of s) in
+    CountedSeam (start .args .pattern .now) (length (start .args .pattern .now)) (start .args .k) (start .args .seam .now) (start .args .split .«over_tail») (start .args .list .now)
+    (s .count-seam .last .1 .1 .1 .1 .1 .0) (s .count-seam .result)
+seam-done s =
+    let start = start-of (table-of s) in
+    s .count-seam .ensures (for-seam (start .args .pattern .now) (start .pre .prepared) (allowed-by (table-of s)))
+
+chunk-done : (w : tie.After-count-windows) → let s = seam-of (w .before) in let start = start-of (table-of s) in
+    Ended (judged start) (length (start .args .pattern .now)) (start .args .chunk .now)
+    (onward (start .args .split) (start .args .split .«over_chunk» .first) (s .count-seam .result .at)) (s .count-seam .last .1 .1 .1 .1 .1 .0)
+    (w .count-windows .last .1 .1 .1 .1 .1 .1 .0) (w .count-windows .result .next) (w .count-windows .result .at) (w .count-windows .result .inspections)
+chunk-done w =
+    let s : tie.After-count-seam = seam-of (w .before) in
+    let start = start-of (table-of s) in
+    w .count-windows .ensures
+    (for-chunk (start .args .pattern .now) (start .pre .prepared) (allowed-by (table-of s)) (seam-done s) (w .before .before .before .before .if1 .left)) .searched
+
 count-seam-requires : tie.Need-count-seam-requires
 count-seam-requires c κs = let table = c .before .before in for-seam (start-of table .args .pattern .now) (start-of table .pre .prepared) (allowed-by table)
 
@@ -59,31 +77,21 @@ returns : tie.Need-returns
 returns c =
     let s : tie.After-count-seam = c .before .before .before .before in
     let start = start-of (table-of s) in
-    let prepared = start .pre .prepared in
-    forward-one prepared (judged start) (s .count-seam .ensures (for-seam (start .args .pattern .now) prepared (allowed-by (table-of s))) .listed) (c .if1 .taken)
+    forward-one (start .pre .prepared) (judged start) (seam-done s .listed) (c .if1 .taken)
 
 count-windows-requires : tie.Need-count-windows-requires
 count-windows-requires c κs =
     let s : tie.After-count-seam = seam-of c in
-    let P = start-of (table-of s) .args .pattern .now in
-    let prepared = start-of (table-of s) .pre .prepared in
-    let allows = allowed-by (table-of s) in
-    for-chunk P prepared allows (s .count-seam .ensures (for-seam P prepared allows)) (c .before .before .before .if1 .left)
+    let start = start-of (table-of s) in
+    for-chunk (start .args .pattern .now) (start .pre .prepared) (allowed-by (table-of s)) (seam-done s) (c .before .before .before .if1 .left)
 
 add-inspections : tie.Need-add-inspections
 add-inspections c =
     let windows : tie.After-count-windows = c .before .before .before .before in
     let s : tie.After-count-seam = seam-of (windows .before) in
     let start = start-of (table-of s) in
-    let prepared = start .pre .prepared in
-    let allows = allowed-by (table-of s) in
-    let one = s .count-seam .ensures (for-seam (start .args .pattern .now) prepared allows) in
-    let two = windows .count-windows .ensures (for-chunk (start .args .pattern .now) prepared allows one (windows .before .before .before .before .if1 .left)) in
     record {
-      fits =
-          forward-inspections prepared (judged start) (one .listed)
-          (every-listed (two .searched) (forward-places prepared (judged start) (one .listed)))
-          (count-few (start .args .pattern .now) (start .args .k));
+      fits = forward-inspections (start .pre .prepared) (judged start) (seam-done s .listed) (chunk-done windows) (count-few (start .args .pattern .now) (start .args .k));
     }
 
 same-length-2 : tie.Need-same-length-2
@@ -96,11 +104,7 @@ returns-2 c =
     let windows : tie.After-count-windows = c .before .before .before .before in
     let s : tie.After-count-seam = seam-of (windows .before) in
     let start = start-of (table-of s) in
-    let prepared = start .pre .prepared in
-    let allows = allowed-by (table-of s) in
-    let one = s .count-seam .ensures (for-seam (start .args .pattern .now) prepared allows) in
-    let two = windows .count-windows .ensures (for-chunk (start .args .pattern .now) prepared allows one (windows .before .before .before .before .if1 .left)) in
-    forward-two prepared (judged start) (one .listed) (every-listed (two .searched) (forward-places prepared (judged start) (one .listed)))
+    forward-two (start .pre .prepared) (judged start) (seam-done s .listed) (chunk-done windows)
 
 allowances-requires : tie.Need-allowances-requires
 allowances-requires c κs = tt

@@ -9,13 +9,13 @@ use Rattle.table_heap.specs.declared.Target.{Target}
 use Rattle.table_heap.specs.Table.{HeapTabled}
 use Rattle.chunk_seam.specs.declared.Split.{Split}
 use Rattle.chunk_seam.proofs.Prepared.{onward}
-use Rattle.loop_forward.proofs.Progress.{every-listed}
+use Rattle.loop_forward.specs.Windows.{Ended}
 use Rattle.loop_hcam.specs.declared.Hashed.{Hashed}
 use Rattle.loop_hcam.specs.Hashing.{HcamSearchable}
 use Rattle.table_parikh.specs.Table.{allowances}
 use Rattle.chunk_seam.specs.Joined.{Prepared}
 use Rattle.chunk_forward.specs.Hashing.{HashableSeam, HashedSeam}
-use Rattle.chunk_forward.proofs.Forwards.{hcam-few, startable, prefix-on, forward-one, forward-two, forward-fitting, forward-places, forward-inspections}
+use Rattle.chunk_forward.proofs.Forwards.{hcam-few, startable, prefix-on, forward-one, forward-two, forward-fitting, forward-inspections}
 use Rattle.chunk_forward.proofs.hcam_chunk.Statement.{statement}
 use Rattle.chunk_forward.proofs.hcam_chunk.Tie as tie
 
@@ -57,6 +57,24 @@ judged start = hcamJudged (start .args .pattern .now)
 fill-values-requires : tie.Need-fill-values-requires
 fill-values-requires c κs = record { pattern-counts = c .before .before .before .before .before .pre .pattern-counts; empty = refl }
 
+-- what the searches of the seam and of the chunk say
+seam-done : (s : tie.After-hcam-seam) → let start = start-of (tables-of s) in
+    HashedSeam (start .args .pattern .now) (length (start .args .pattern .now)) (start .args .seam .now) (start .args .split .«over_tail») (start .args .list .now)
+    (s .hcam-seam .last .1 .1 .1 .1 .1 .1 .0) (s .hcam-seam .result)
+seam-done s =
+    let tables = tables-of s in
+    s .hcam-seam .ensures (for-seam (start-of tables .pre .prepared) (allowed-by tables) (tables .before .fill-values .ensures))
+
+chunk-done : (w : tie.After-hcam-windows) → let s = seam-of (w .before) in let start = start-of (tables-of s) in
+    Ended (judged start) (length (start .args .pattern .now)) (start .args .chunk .now)
+    (onward (start .args .split) (start .args .split .«over_chunk» .first) (s .hcam-seam .result .at)) (s .hcam-seam .last .1 .1 .1 .1 .1 .1 .0)
+    (w .hcam-windows .last .1 .1 .1 .1 .1 .1 .1 .0) (w .hcam-windows .result .next) (w .hcam-windows .result .at) (w .hcam-windows .result .inspections)
+chunk-done w =
+    let s : tie.After-hcam-seam = seam-of (w .before) in
+    let tables = tables-of s in
+    w .hcam-windows .ensures
+    (for-chunk (start-of tables .pre .prepared) (allowed-by tables) (tables .before .fill-values .ensures) (seam-done s) (w .before .before .before .before .before .if1 .left)) .searched
+
 hcam-seam-requires : tie.Need-hcam-seam-requires
 hcam-seam-requires c κs =
     let tables = c .before .before .before in
@@ -68,33 +86,24 @@ same-length c = c .before .before .before .before .hcam-seam .kept .1 .1 .1 .1 .
 returns : tie.Need-returns
 returns c =
     let s : tie.After-hcam-seam = c .before .before .before .before in
-    let tables = tables-of s in
-    let prepared = start-of tables .pre .prepared in
-    forward-one prepared (judged (start-of tables)) (s .hcam-seam .ensures (for-seam prepared (allowed-by tables) (tables .before .fill-values .ensures)) .listed) (c .if1 .taken)
+    let start = start-of (tables-of s) in
+    forward-one (start .pre .prepared) (judged start) (seam-done s .listed) (c .if1 .taken)
 
 hcam-windows-requires : tie.Need-hcam-windows-requires
 hcam-windows-requires c κs =
     let s : tie.After-hcam-seam = seam-of c in
     let tables = tables-of s in
-    let prepared = start-of tables .pre .prepared in
-    let tabled = tables .before .fill-values .ensures in
-    for-chunk prepared (allowed-by tables) tabled (s .hcam-seam .ensures (for-seam prepared (allowed-by tables) tabled)) (c .before .before .before .before .if1 .left)
+    for-chunk (start-of tables .pre .prepared) (allowed-by tables) (tables .before .fill-values .ensures) (seam-done s) (c .before .before .before .before .if1 .left)
 
 add-inspections : tie.Need-add-inspections
 add-inspections c =
     let windows : tie.After-hcam-windows = c .before .before .before .before in
     let s : tie.After-hcam-seam = seam-of (windows .before) in
-    let tables = tables-of s in
-    let start = start-of tables in
+    let start = start-of (tables-of s) in
     let prepared = start .pre .prepared in
-    let tabled = tables .before .fill-values .ensures in
-    let one = s .hcam-seam .ensures (for-seam prepared (allowed-by tables) tabled) in
-    let two = windows .hcam-windows .ensures (for-chunk prepared (allowed-by tables) tabled one (windows .before .before .before .before .before .if1 .left)) in
     record {
       fits =
-          forward-inspections prepared (judged start) (one .listed)
-          (every-listed (two .searched) (forward-places prepared (judged start) (one .listed)))
-          (hcam-few (start .args .pattern .now) refl (prepared .joinable .short));
+          forward-inspections prepared (judged start) (seam-done s .listed) (chunk-done windows) (hcam-few (start .args .pattern .now) refl (prepared .joinable .short));
     }
 
 same-length-2 : tie.Need-same-length-2
@@ -106,13 +115,8 @@ returns-2 : tie.Need-returns-2
 returns-2 c =
     let windows : tie.After-hcam-windows = c .before .before .before .before in
     let s : tie.After-hcam-seam = seam-of (windows .before) in
-    let tables = tables-of s in
-    let start = start-of tables in
-    let prepared = start .pre .prepared in
-    let tabled = tables .before .fill-values .ensures in
-    let one = s .hcam-seam .ensures (for-seam prepared (allowed-by tables) tabled) in
-    let two = windows .hcam-windows .ensures (for-chunk prepared (allowed-by tables) tabled one (windows .before .before .before .before .before .if1 .left)) in
-    forward-two prepared (judged start) (one .listed) (every-listed (two .searched) (forward-places prepared (judged start) (one .listed)))
+    let start = start-of (tables-of s) in
+    forward-two (start .pre .prepared) (judged start) (seam-done s .listed) (chunk-done windows)
 
 allowances-requires : tie.Need-allowances-requires
 allowances-requires c κs = tt

@@ -1,13 +1,14 @@
 -- `chunk_search::search_chunk` meets its contract: the tail and the chunk are made ready, and the method's function searches them.
-use mathlib.Core.Path.{_≡_, sym, ap}
+use mathlib.Core.Path.{_≡_, sym, ap, _∙_}
 use mathlib.Core.List.{_++_}
 use native.Mathlib.Omega.{arith}
 use Prim.Native.Nat.{_-_, _≤_}
 use lib.ListN.{length, take}
 use lib.Seq.{length-take-le}
 use borrow.Author.Needs.{needs}
-use Rattle.jumbled.specs.Steps.{steps}
-use Rattle.jumbled.proofs.Positions.{no-windows}
+use Rattle.jumbled.specs.Match.{starts}
+use Rattle.jumbled.specs.Steps.{stepsInto}
+use Rattle.jumbled.proofs.Positions.{no-windows, steps-room}
 use Rattle.chunk_seam.specs.declared.Seam as S
 use Rattle.chunk_seam.proofs.Prepared.{parted-starts}
 use Rattle.chunk_seam.proofs.Seams.{reach-fits, seam-holds}
@@ -26,7 +27,8 @@ returns c =
     let s : tie.After-split-starts = c .before .before in
     let args = s .before .before .before .before .before .args in
     let none = c .if1 .taken in
-    found-none _ _ _ (no-windows _ _ _ _ (omega (arith, parted-starts (args .tail .now) (args .chunk .now) (s .split-starts .ensures))))
+    let empty : starts (length (args .pattern .now)) (args .tail .now ++ args .chunk .now) ≡ 0 = omega (arith, parted-starts (args .tail .now) (args .chunk .now) (s .split-starts .ensures)) in
+    found-none _ _ _ (steps-room _ _ _ _ _ (omega (arith, empty)) ∙ no-windows _ _ _ _ empty)
 
 seam-of-requires : tie.Need-seam-of-requires
 seam-of-requires c κs =
@@ -84,7 +86,7 @@ returns-2 c =
     let seam : tie.After-seam-of = c .before .before .before .before .before .before in
     let s : tie.After-split-starts = seam .before .before .before in
     let args = s .before .before .before .before .before .args in
-    found-joined (args .tail .now) (args .chunk .now) (s .split-starts .ensures) (seam-reaches seam) (steps (args .pattern .now) (args .k) (args .method)) (c .before .before .search-split .ensures)
+    found-joined (args .tail .now) (args .chunk .now) (s .split-starts .ensures) (seam-reaches seam) (stepsInto (length (args .list .now)) (args .pattern .now) (args .k) (args .method)) (c .before .before .search-split .ensures)
 
 pub search-chunk-spec : {M : Type 1} → statement M
 search-chunk-spec =

@@ -1,6 +1,7 @@
 -- `chunk_search::search_split` meets its contract: each method's function yields its steps.
 use native.Mathlib.Omega.{arith}
 use borrow.Author.Needs.{needs}
+use lib.ListN.{length}
 use Rattle.jumbled.proofs.Admission.{method-taken}
 use Rattle.chunk_seam.specs.Joined.{joined}
 use Rattle.chunk_search.proofs.Steps.{steps-1, steps-5, steps-6, steps-backward}
@@ -16,7 +17,7 @@ same-length c = search needs
 returns : tie.Need-returns
 returns c =
     let args = c .before .before .before .before .before .before .before .before .before .args in
-    rw (steps-1 (args .pattern .now) (args .k) (args .method) (joined (args .split) (args .seam .now) (args .chunk .now)) (omega (arith, c .before .before .before .before .if1 .taken)))
+    rw (steps-1 (args .pattern .now) (args .k) (args .method) (length (args .list .now)) (joined (args .split) (args .seam .now) (args .chunk .now)) (omega (arith, c .before .before .before .before .if1 .taken)))
     (c .before .before .count-chunk .ensures)
 
 hcam-chunk-requires : tie.Need-hcam-chunk-requires
@@ -28,7 +29,7 @@ same-length-2 c = search needs
 returns-2 : tie.Need-returns-2
 returns-2 c =
     let args = c .before .before .before .before .before .before .before .before .before .before .args in
-    rw (steps-5 (args .pattern .now) (args .k) (args .method) (joined (args .split) (args .seam .now) (args .chunk .now)) (omega (arith, c .before .before .before .before .if2 .taken)))
+    rw (steps-5 (args .pattern .now) (args .k) (args .method) (length (args .list .now)) (joined (args .split) (args .seam .now) (args .chunk .now)) (omega (arith, c .before .before .before .before .if2 .taken)))
     (c .before .before .hcam-chunk .ensures)
 
 ebl-chunk-requires : tie.Need-ebl-chunk-requires
@@ -40,7 +41,7 @@ same-length-3 c = search needs
 returns-3 : tie.Need-returns-3
 returns-3 c =
     let args = c .before .before .before .before .before .before .before .before .before .before .before .args in
-    rw (steps-6 (args .pattern .now) (args .k) (args .method) (joined (args .split) (args .seam .now) (args .chunk .now)) (omega (arith, c .before .before .before .before .if3 .taken)))
+    rw (steps-6 (args .pattern .now) (args .k) (args .method) (length (args .list .now)) (joined (args .split) (args .seam .now) (args .chunk .now)) (omega (arith, c .before .before .before .before .if3 .taken)))
     (c .before .before .ebl-chunk .ensures)
 
 backward-chunk-requires : tie.Need-backward-chunk-requires
@@ -74,7 +75,7 @@ returns-4 c =
     let not-1 = c .before .before .before .before .before .before .if1 .left in
     let not-5 = c .before .before .before .before .before .if2 .left in
     let not-6 = c .before .before .before .before .if3 .left in
-    rw (steps-backward (args .pattern .now) (args .k) (args .method) (joined (args .split) (args .seam .now) (args .chunk .now)) (omega (arith, taken .least)) (omega (arith, taken .most)))
+    rw (steps-backward (args .pattern .now) (args .k) (args .method) (length (args .list .now)) (joined (args .split) (args .seam .now) (args .chunk .now)) (omega (arith, taken .least)) (omega (arith, taken .most)))
     (c .before .before .backward-chunk .ensures)
 
 pub search-split-spec : {M : Type 1} → statement M

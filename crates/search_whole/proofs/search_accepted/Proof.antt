@@ -1,7 +1,9 @@
 -- `search_whole::search_accepted` meets its contract: the steps over an empty tail and the text.
+use mathlib.Core.List.{[]}
 use native.Mathlib.Omega.{arith}
 use lib.ListN.{length}
 use Rattle.jumbled.proofs.Admission.{admitted, method-given, WholeTaken, whole-taken}
+use Rattle.chunk_search.proofs.Room.{places-there, all-stepped}
 use Rattle.search_whole.specs.Whole.{wholeNumber}
 use Rattle.search_whole.proofs.Wholes.{steps-searched}
 use borrow.Author.Needs.{needs}
@@ -26,7 +28,7 @@ search-chunk-requires c κs =
     let pattern = admitted (args .pattern .now) (args .k) (args .method) (right start .pattern-right) in
     let size = right start .size in
     record {
-      joinable = record { short = pattern .short; tail-short = pattern .some; numbered = omega (arith, size .not-long); room = omega (arith, size .room) };
+      joinable = record { short = pattern .short; tail-short = pattern .some; numbered = omega (arith, size .not-long); room = places-there (args .pattern .now) [] (args .text .now) (args .list .now) (pattern .some) (size .room) };
       taken =
           record {
             counted = start .pre .counted;
@@ -46,7 +48,9 @@ returns c =
     let args = start .args in
     steps-searched (args .pattern .now) (args .k) (args .method) (args .text .now) (args .list .now)
     (record { below = λ i. known .before .shared-slice-known .given i .fits }) (record { below = λ i. known .shared-slice-known2 .given i .fits })
-    (right start .pattern-right) (searched .search-chunk .ensures)
+    (right start .pattern-right)
+    (all-stepped (args .pattern .now) [] (args .text .now) (args .list .now) (admitted (args .pattern .now) (args .k) (args .method) (right start .pattern-right) .some) (right start .size .room) (args .k) (args .method) 0
+    (searched .search-chunk .ensures))
 
 pub search-accepted-spec : {M : Type 1} → statement M
 search-accepted-spec =

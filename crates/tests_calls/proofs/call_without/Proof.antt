@@ -24,6 +24,9 @@ call-several-requires c κs = search needs
 call-marked-requires : tie.Need-call-marked-requires
 call-marked-requires c κs = search needs
 
+call-first-requires : tie.Need-call-first-requires
+call-first-requires c κs = search needs
+
 exact-requires : tie.Need-exact-requires
 exact-requires c κs = search needs
 
@@ -67,16 +70,21 @@ returns-5 c =
 
 returns-6 : tie.Need-returns-6
 unfolding OutcomeMade
-returns-6 c =
+returns-6 c = rw (c .before .match .keys6) (refl, c .call-first .ensures)
+
+returns-7 : tie.Need-returns-7
+unfolding OutcomeMade
+returns-7 c =
     let arm : tie.At-match-rest = c .before .before in
     let op = arm .before .before .before .before .args .op in
     let none = arm .match .rest in
     rw (
-      ne-eqb op 1 (none .0 .0 .0 .0 .1),
-      ne-eqb op 8 (none .0 .0 .0 .1),
-      ne-eqb op 9 (none .0 .0 .1),
-      ne-eqb op 11 (none .0 .1),
-      ne-eqb op 12 (none .1),
+      ne-eqb op 1 (none .0 .0 .0 .0 .0 .1),
+      ne-eqb op 8 (none .0 .0 .0 .0 .1),
+      ne-eqb op 9 (none .0 .0 .0 .1),
+      ne-eqb op 11 (none .0 .0 .1),
+      ne-eqb op 12 (none .0 .1),
+      ne-eqb op 13 (none .1),
     )
     (refl, rw (c .number-outcome2 .ensures, c .before .exact .ensures))
 
@@ -90,6 +98,7 @@ call-without-spec =
     number-outcome-requires
     call-several-requires
     call-marked-requires
+    call-first-requires
     exact-requires
     number-outcome-requires-2
     same-length
@@ -100,4 +109,5 @@ call-without-spec =
     returns-4
     same-length-3
     returns-5
-    returns-6)
+    returns-6
+    returns-7)

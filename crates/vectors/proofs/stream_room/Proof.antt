@@ -6,7 +6,7 @@ use Rattle.vectors.proofs.stream_room.Statement.{statement}
 use Rattle.vectors.proofs.stream_room.Tie as tie
 
 returns : tie.Need-returns
-returns c = (ap (replicate {A = ℕ} 786432) refl, sym (length-replicate {A = ℕ} 786432 0))
+returns c = (ap (replicate {A = ℕ} 1048576) refl, sym (length-replicate {A = ℕ} 1048576 0))
 
 pub stream-room-spec : {M : Type 1} → statement M
 stream-room-spec = tie.close (tie.spec returns)

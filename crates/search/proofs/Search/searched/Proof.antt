@@ -1,9 +1,11 @@
 -- `search::Search::searched` meets its contract.
 use mathlib.Core.Path.{_≡_, sym}
+use Prim.Native.Nat.{_-_, _<_}
 use native.Mathlib.Omega.{arith}
 use lib.ListN.{length}
-use Rattle.jumbled.proofs.Admission.{admitted, method-given, chunk-taken}
-use Rattle.search.specs.Searches.{patternOf}
+use Rattle.jumbled.proofs.Admission.{admitted, method-given, ChunkTaken, chunk-taken}
+use Rattle.chunk_search.proofs.Room.{places-there, all-stepped}
+use Rattle.search.specs.Searches.{patternOf, tailOf}
 use Rattle.search.proofs.Handed.{SoundSearch, sound, pattern-length, tail-fits, tail-length}
 use borrow.Author.Needs.{needs}
 use Rattle.search.proofs.Search.searched.Statement.{statement}
@@ -36,21 +38,31 @@ array-share-prefix-tail c = let start = start-of (c .before) in omega (arith, ta
 slice-aggregate-search-chunk-2 : tie.Need-slice-aggregate-search-chunk-2
 slice-aggregate-search-chunk-2 c = let start = start-of (c .before .before) in sym (tail-length (right start) (lengths start .1))
 
+-- 6, 7 and 8 do not apply, and the tail is shorter than the pattern
+limits : (start : tie.Start) → let args = start .args in ChunkTaken (args .self .total) (length (args .chunk .now)) (length (args .list .now))
+limits start = let args = start .args in chunk-taken (args .self .total) (length (args .chunk .now)) (length (args .list .now)) (start .pre .chunk-right)
+
+tail-short : (start : tie.Start) → let held = start .args .self in length (tailOf held) < length (patternOf held)
+tail-short start =
+    let held = start .args .self in
+    let admits = admitted (patternOf held) (held .k) (held .method) (right start .admits) in
+    let m = pattern-length (right start) (lengths start .0) in
+    let t = tail-length (right start) (lengths start .1) in
+    omega (arith, admits .some, right start .tail-right)
+
 search-chunk-requires : tie.Need-search-chunk-requires
 search-chunk-requires c κs =
     let start = start-of (c .before .before .before) in
     let held = start .args .self in
     let admits = admitted (patternOf held) (held .k) (held .method) (right start .admits) in
-    let limits = chunk-taken (held .total) (length (start .args .chunk .now)) (length (start .args .list .now)) (start .pre .chunk-right) in
-    let m = pattern-length (right start) (lengths start .0) in
     let t = tail-length (right start) (lengths start .1) in
     record {
       joinable =
           record {
             short = admits .short;
-            tail-short = omega (arith, admits .some, right start .tail-right);
-            numbered = omega (arith, right start .tail-right, limits .fits);
-            room = limits .size .room;
+            tail-short = tail-short start;
+            numbered = omega (arith, right start .tail-right, limits start .fits);
+            room = places-there (patternOf held) (tailOf held) (start .args .chunk .now) (start .args .list .now) (tail-short start) (limits start .size .room);
           };
       taken =
           record {
@@ -64,7 +76,12 @@ same-length : tie.Need-same-length
 same-length c = search needs
 
 returns : tie.Need-returns
-returns c = search needs
+returns c =
+    let searched = c .before .before in
+    let start = start-of (searched .before .before .before .before) in
+    let held = start .args .self in
+    all-stepped (patternOf held) (tailOf held) (start .args .chunk .now) (start .args .list .now) (tail-short start) (limits start .size .room) (held .k) (held .method)
+    (held .total - held .«tail_len») (searched .search-chunk .ensures)
 
 pub searched-spec : {M : Type 1} → statement M
 searched-spec =

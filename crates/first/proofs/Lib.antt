@@ -1,0 +1,3 @@
+pub mod Firsts
+pub mod Contract
+pub mod Claims
