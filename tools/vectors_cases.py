@@ -2341,6 +2341,414 @@ def made_first(stream, rng):
         first_from(stream, start, pattern, k, rng.choice(allowed_methods(pattern, k)), text)
 
 
+# --- Readings sent again (document 02, T-09) -------------------------------------------------
+
+
+def sent(*entries):
+    """The bytes of entries, each an hour, a serial and a letter."""
+    return b"".join(ref.entry_bytes(entry) for entry in entries)
+
+
+def in_each_order(stream, *entries):
+    """Equal entries aren't told apart."""
+    for order in sorted(set(itertools.permutations(entries))):
+        stream.resent(sent(*order))
+
+
+def cycled(hours):
+    """Entries of these hours, an odd number of them, in this order: so many bytes four
+    times over, of which each is once an hour, once each half of a serial and once a
+    letter."""
+    unit = bytearray(len(hours))
+    for at, hour in enumerate(hours):
+        unit[4 * at % len(unit)] = hour
+    return repeated(4 * len(unit), bytes(unit))
+
+
+def mixed(rng, some):
+    some = list(some)
+    rng.shuffle(some)
+    return some
+
+
+def some_entries(rng, count):
+    """Of any hours, with serials that all differ."""
+    serials = []
+    while len(serials) < count:
+        drawn = rng.randrange(65536)
+        serials += [drawn] if drawn not in serials else []
+    return [(rng.randrange(216), serial, rng.randrange(256)) for serial in serials]
+
+
+def lengths_of_entries(stream, rng):
+    """Every short length, both sides of the most entries, and of as many bytes; then the
+    longest ones here."""
+    unit = sent((3, 1, 97), (215, 256, 98), (3, 255, 99), (0, 0, 100), (215, 65535, 101))
+    for n in range(21):
+        stream.resent(unit[:n])
+    for n in (
+        *range(21, 29), 1024, 1028, *range(4095, 4101), 8192, *range(16379, 16390), 16392, 16640,
+        20480, 32768, 32772, *range(65532, 65538),
+    ):
+        stream.resent(repeated(n, unit))
+
+
+def hours_alone(stream, rng):
+    """Each of them, and some over 215, in the only entry, the letter of which isn't the
+    lost-hour mark."""
+    for hour in (*range(216), 216, 217, 218, 223, 224, 240, 254, 255):
+        stream.resent(sent((hour, 263 * hour % 65536, (hour + 46) % 255)))
+    for hour in (0, 214, 215, 216, 217, 255):
+        for serial in (0, 65535):
+            stream.resent(sent((hour, serial, 97)))
+
+
+def hours_together(stream, rng):
+    """All of them, ascending, descending and mixed, at first with the same entries; all
+    but one; and all of them again and again."""
+    every = list(range(216))
+    entries = [(hour, rng.randrange(65536), rng.randrange(256)) for hour in every]
+    for order in (entries, entries[::-1], mixed(rng, entries)):
+        stream.resent(sent(*order))
+    for order in (every + every[-1:], every[::-1] + every[:1]):
+        stream.resent(cycled(order))
+    for more in (1, 1, 39, 39):
+        stream.resent(cycled(mixed(rng, every + mixed(rng, every)[:more])))
+    for left_out in (0, 128, 215):
+        stream.resent(cycled(mixed(rng, every[:left_out] + every[left_out + 1 :])))
+    for count in (4095, 4096):
+        unit = cycled(mixed(rng, every + [rng.randrange(216)])).value[:217]
+        stream.resent(repeated(4 * count, unit))
+
+
+def hours_over(stream, rng):
+    """At each end and in the middle, beside hours up to 215; and 214 and 215 in the same
+    places."""
+    for count, hour in itertools.product((2, 5), (214, 215, 216, 217, 255)):
+        for at in sorted({0, count // 2, count - 1}):
+            entries = some_entries(rng, count)
+            entries[at] = (hour,) + entries[at][1:]
+            stream.resent(sent(*entries))
+    for hour, at in itertools.product((216, 255), (0, 127, 254)):
+        hours = mixed(rng, range(216)) + mixed(rng, range(39))
+        hours[at] = hour
+        stream.resent(cycled(hours))
+    # The last of many, and then without it.
+    own = bytes(range(216)) + bytes(range(38)) + b"\xd8"
+    count = 0
+    while count < 900:
+        seed = rng.randrange(2**32)
+        count = scattered(16384, seed, own).value[::4].find(b"\xd8")
+    assert stream.resent(scattered(4 * count + 4, seed, own)) == 15
+    assert stream.resent(scattered(4 * count, seed, own)) == 0
+
+
+# Both sides of what 7, 8, 15 and 16 bits hold.  The order of some is another one by the low
+# byte alone, by the high byte alone, or with the two of them exchanged.
+SERIALS = 0, 1, 127, 128, 255, 256, 257, 32767, 32768, 65280, 65534, 65535
+
+
+def serials_of_an_hour(stream, rng):
+    """Every two of them, in both orders; each alone; and three, the highest of which is
+    first, in the middle and last."""
+    for at, (one, other) in enumerate(itertools.permutations(SERIALS, 2)):
+        hour = 31 * at % 216
+        stream.resent(sent((hour, one, 97 + at % 3), (hour, other, 100 + at % 5)))
+    for serial in SERIALS:
+        stream.resent(sent((serial % 216, serial, 120)))
+    for serials in ((255, 256, 257), (0, 1, 65535), (510, 765, 255), (254, 511, 256)):
+        in_each_order(stream, *((99, serial, 65 + at) for at, serial in enumerate(serials)))
+
+
+def serials_by_a_bit(stream, rng):
+    """Serials that differ in one bit, in both orders."""
+    for bit in range(16):
+        serial, hour = rng.randrange(65536), rng.randrange(216)
+        in_each_order(stream, (hour, serial, 98), (hour, serial ^ 2**bit, 99))
+
+
+def letters_sent_again(stream, rng):
+    """Every byte as a letter that supersedes one that differs from it in a bit, and is
+    handed in after it or before it; and some alone."""
+    for letter in range(128):
+        entries = []
+        for own in (letter, letter ^ 128):
+            hour, serial = rng.randrange(216), rng.randrange(1, 65536)
+            before = hour, rng.randrange(serial), own ^ 2 ** (letter % 8)
+            entries += [before, (hour, serial, own)]
+        stream.resent(sent(*entries[:: (1, -1)[letter // 8 % 2]]))
+    for letter in (0, 32, 44, 45, 46, 127, 128, 255):
+        stream.resent(sent((letter % 216, 258, letter)))
+
+
+# The lost-hour mark's neighbours, others by a bit, and what else could stand for nothing.
+BESIDE_THE_MARK = 0, 32, 44, 46, 173
+
+
+def marks_sent_again(stream, rng):
+    """The lost-hour mark is a letter as any other: it supersedes, is superseded, and is
+    no other letter."""
+    for hour, serial in ((0, 0), (215, 65535), (100, 300)):
+        stream.resent(sent((hour, serial, 45)))
+        stream.resent(sent((hour, serial, 45), (hour, serial, 45)))
+        in_each_order(stream, (hour, serial, 45), (hour, serial, 97))
+    for letter in BESIDE_THE_MARK:
+        in_each_order(stream, (9, 300, 45), (9, 255, letter))
+        in_each_order(stream, (9, 255, 45), (9, 300, letter))
+        in_each_order(stream, (9, 300, 45), (9, 300, letter))
+    in_each_order(stream, (20, 1, 45), (20, 2, 97), (20, 3, 45))
+    in_each_order(stream, (20, 1, 97), (20, 2, 45), (20, 3, 98))
+    in_each_order(stream, (20, 1, 97), (20, 1, 45), (20, 2, 98))
+    in_each_order(stream, (20, 1, 97), (20, 2, 45), (20, 2, 98))
+    in_each_order(stream, (20, 0, 45), (20, 0, 45), (20, 0, 46))
+
+
+def conflicts_at_the_edges(stream, rng):
+    """Of the hours and serials at an edge; letters that differ in a bit."""
+    for hour in (0, 127, 128, 215):
+        for serial in (0, 1, 255, 256, 65534, 65535):
+            stream.resent(sent((hour, serial, 97), (hour, serial, 98)))
+    for letter, bit in itertools.product((0, 45, 97, 255), range(8)):
+        stream.resent(sent((215, 2, letter), (215, 2, letter ^ 2**bit)))
+
+
+def conflicts_beside_others(stream, rng):
+    """Under a higher serial and over a lower one, which has a letter of its own or one of
+    theirs; three of one serial, of which two or three differ; and beside another hour."""
+    for other, letter in itertools.product((0, 255, 257, 65535), (98, 99)):
+        in_each_order(stream, (50, 256, 97), (50, 256, 98), (50, other, letter))
+    for letter in (97, 98):
+        in_each_order(stream, (0, 0, 97), (0, 0, 98), (0, 0, letter))
+    in_each_order(stream, (0, 65535, 97), (0, 65535, 98), (0, 65535, 99))
+    in_each_order(stream, (50, 7, 97), (50, 7, 98), (51, 7, 97))
+
+
+def conflict_of_each_two(stream, rng):
+    """Of so many entries, some of them of the same hour, each two that can conflict; then
+    of more at the ends, side by side, and at both sides of the middle."""
+    for count in (2, 3, 4, 5, 8):
+        for places in itertools.combinations(range(count), 2):
+            conflicting(stream, rng, count, *places)
+    for count in (16, 17, 33, 64):
+        half, last = count // 2, count - 1
+        for places in ((0, last), (0, 1), (last - 1, last), (half - 1, half), (half // 2, half)):
+            conflicting(stream, rng, count, *places)
+
+
+def conflicting(stream, rng, count, one, other):
+    hour = rng.randrange(216)
+    entries = some_entries(rng, count)
+    entries = [(hour if rng.randrange(2) else h, serial, letter) for h, serial, letter in entries]
+    letter = entries[one][2]
+    entries[one] = hour, entries[one][1], letter
+    entries[other] = hour, entries[one][1], (letter + rng.randrange(1, 256)) % 256
+    assert stream.resent(sent(*entries)) == 16
+
+
+# Two entries that have two letters and don't conflict: of two hours; of two serials that are
+# alike in a half or have the halves exchanged; or of hours and serials that come to the same
+# where they are put together with too few bits, added, or combined bit by bit.
+NO_CONFLICTS = (
+    ((0, 5), (1, 5)), ((0, 5), (215, 5)), ((0, 0), (128, 0)), ((87, 65535), (215, 65535)),
+    ((214, 0), (215, 0)), ((9, 0), (9, 1)), ((9, 65534), (9, 65535)), ((9, 511), (9, 255)),
+    ((9, 0), (9, 256)), ((9, 0), (9, 32768)), ((9, 258), (9, 257)), ((9, 258), (9, 259)),
+    ((9, 258), (9, 513)), ((9, 255), (9, 65280)), ((0, 256), (1, 0)), ((0, 1), (1, 0)),
+    ((1, 256), (2, 0)), ((0, 216), (1, 0)), ((1, 2), (2, 1)), ((3, 0), (0, 3)), ((1, 3), (3, 1)),
+    ((0, 65535), (1, 65534)), ((8, 0), (0, 6675)), ((160, 2), (2, 160)), ((0, 40), (40, 0)),
+    ((1, 255), (0, 511)), ((2, 512), (0, 514)), ((0, 65535), (215, 0)),
+)
+
+
+def no_conflicts(stream, rng):
+    """These in both orders, in one of them with the first once more."""
+    for at, (one, other) in enumerate(NO_CONFLICTS):
+        one, other = one + (97,), other + (98,)
+        for order in ((one, other, one)[: 2 + at % 2], (other, one, other)[: 3 - at % 2]):
+            assert stream.resent(sent(*order)) == 0
+
+
+def equal_entries(stream, rng):
+    """Twice, more often, and as often as there may be entries; beside others of the hour
+    that supersede them or don't, and of other hours."""
+    for entry in ((0, 0, 0), (0, 0, 45), (215, 65535, 255), (128, 256, 97), (87, 255, 32)):
+        for count in (2, 3, 4096):
+            stream.resent(repeated(4 * count, sent(entry)))
+    for count in (5, 216, 217, 256, 257, 4095, 4097, 8192, 16384):
+        stream.resent(repeated(4 * count, sent((215, 513, 98))))
+    for serial in (0, 512, 514, 65535):
+        in_each_order(stream, (60, 513, 98), (60, 513, 98), (60, serial, 99))
+        in_each_order(stream, (60, 513, 98), (60, 513, 98), (60, serial, 98))
+    in_each_order(stream, (60, 513, 98), (60, 513, 98), (61, 513, 99), (61, 513, 99))
+    unit = sent(*mixed(rng, some_entries(rng, 60)))
+    for count in (60, 61, 120, 4095, 4096, 4097):
+        stream.resent(repeated(4 * count, unit))
+
+
+def refused_for_two_reasons(stream, rng):
+    """A conflict, and with it a cut-off entry, an hour over 215, or too many entries: 15
+    is first.  The conflict may be of that hour, or come about by the cut-off entry."""
+    conflict = (7, 3, 97), (7, 3, 98)
+    for rest in (b"\7", b"\7\3", b"\7\3\0", b"\xd8\0", b"\xff\xff\xff"):
+        assert stream.resent(sent(*conflict) + rest) == 15
+        assert stream.resent(sent(conflict[0]) + rest) == 15
+        assert stream.resent(sent(*conflict, (7, 4, 99)) + rest) == 15
+        assert stream.resent(sent((216, 3, 97)) + rest) == 15
+    for hour in (216, 255):
+        in_each_order(stream, *conflict, (hour, 3, 97))
+        in_each_order(stream, (hour, 3, 97), (hour, 3, 98))
+        in_each_order(stream, (hour, 3, 97), (hour, 3, 98), (7, 3, 97))
+    in_each_order(stream, (0, 3, 97), (216, 3, 98))
+    in_each_order(stream, (39, 3, 97), (255, 3, 98))
+    in_each_order(stream, (127, 3, 97), (255, 3, 98))
+    for count in (4095, 4096, 4097, 4098, 16384):
+        for entries in (conflict, conflict + ((7, 4, 99),), conflict + ((216, 4, 99),)):
+            stream.resent(repeated(4 * count, sent(*entries)))
+    for n in (16381, 16383, 16385, 16386, 16387, 65537):
+        stream.resent(repeated(n, sent(*conflict)))
+        stream.resent(repeated(n, sent(*conflict, (255, 4, 99))))
+        stream.resent(repeated(n, sent((7, 3, 97), (216, 3, 97))))
+
+
+def every_three_entries(stream, rng):
+    """Of one hour, with two letters and two serials: each three, and each two."""
+    every = [(215, serial, letter) for serial in (255, 256) for letter in b"-a"]
+    for count in (2, 3):
+        for entries in itertools.product(every, repeat=count):
+            stream.resent(sent(*entries))
+
+
+def every_order(stream, rng):
+    """Some sets of entries in all their orders."""
+    in_each_order(
+        stream, (0, 255, 97), (0, 256, 45), (0, 1, 98), (215, 65535, 99), (215, 256, 97)
+    )
+    for entries in (
+        ((7, 3, 97), (7, 3, 98), (7, 9, 99), (8, 3, 98)),
+        ((7, 3, 97), (7, 3, 97), (7, 9, 98), (7, 2, 99)),
+    ):
+        in_each_order(stream, *entries)
+
+
+def larger_sets_in_some_orders(stream, rng):
+    """By hour, by serial, both of these from the end, and shuffled: accepted, with a
+    conflict, and with an hour over 215."""
+    for count, hours, fault in (
+        (20, 3, 0), (40, 216, 0), (60, 9, 0), (24, 4, 16), (24, 4, 15),
+    ):
+        entries = [
+            (serial % hours * (216 // hours), serial, letter)
+            for _, serial, letter in some_entries(rng, count)
+        ]
+        if fault == 16:
+            hour, serial, letter = min(entries)
+            entries[entries.index(max(entries))] = hour, serial, letter ^ 4
+        if fault == 15:
+            entries[count // 2] = (216,) + entries[count // 2][1:]
+        by_serial = sorted(entries, key=lambda entry: entry[1:])
+        orders = [sorted(entries), sorted(entries)[::-1], by_serial, by_serial[::-1]]
+        for order in orders + [mixed(rng, entries) for _ in range(2)]:
+            assert stream.resent(sent(*order)) == fault
+
+
+def serials_of_one_hour(stream, rng):
+    """As many as there may be entries, descending, and mixed with the highest last; fewer
+    ascending; then some of them again and again."""
+    serials = mixed(rng, range(65536))[:4096]
+    highest = serials.index(max(serials))
+    serials[highest], serials[-1] = serials[-1], serials[highest]
+    letter = {serial: rng.randrange(256) for serial in serials}
+    for hour, order in (
+        (215, sorted(serials)[::-1]), (0, serials), (128, sorted(serials[:600])),
+    ):
+        stream.resent(sent(*((hour, serial, letter[serial]) for serial in order)))
+    for order in (sorted(serials[:63]), sorted(serials[:63])[::-1], serials[:63]):
+        unit = sent(*((77, serial, letter[serial]) for serial in order))
+        for count in (63, 126, 4096):
+            stream.resent(repeated(4 * count, unit))
+    # Every other byte is the hour, and so the high half of the serial as well.
+    for count in (1, 63, 127):
+        unit = bytearray([77]) * (2 * count)
+        unit[1::2] = mixed(rng, range(256))[:count]
+        stream.resent(repeated(16384, bytes(unit)))
+
+
+# Of 4,096 entries scattered over the bytes up to 215 the only two that conflict: at first
+# those with the highest serial of their hour, and then others under a higher one.  The seeds
+# were found by trying, and are tested.
+LONE_CONFLICTS = (
+    (0, 4095, 16218906), (0, 1, 69796753), (4094, 4095, 64559762), (2047, 2048, 445885921),
+    (1, 4094, 73727951), (0, 4095, 18451500), (0, 1, 43073550), (4094, 4095, 36379800),
+    (2047, 2048, 5060632), (1, 4094, 7842968),
+)
+
+
+def lone_conflicts(stream, rng):
+    """The same up to the second of the two and without it; and with one entry too many,
+    whole and cut off."""
+    own = bytes(range(216))
+    for one, other, seed in LONE_CONFLICTS:
+        entries, _ = ref.whole_entries(scattered(16384, seed, own).value)
+        assert entries[one][:2] == entries[other][:2]
+        for count in sorted({other + 1, 4096}):
+            assert stream.resent(scattered(4 * count, seed, own)) == 16
+        assert stream.resent(scattered(4 * other, seed, own)) == 0
+    for at, more in enumerate((1, 2, 3, 4)):
+        assert stream.resent(scattered(16384 + more, LONE_CONFLICTS[at][2], own)) == 15
+
+
+def decides(given, at):
+    """Whether the record would be another one without that entry."""
+    return ref.resent(given[: 4 * at] + given[4 * at + 4 :])[1] != ref.resent(given)[1]
+
+
+def scattered_entries(stream, rng):
+    """Of as many entries as there may be the first one decides an hour, or the last one;
+    then of fewer hours, of fewer entries, of few letters, and of too many entries."""
+    own = bytes(range(216))
+    for count, at in ((4096, 0), (4096, 4095), (4095, 4094), (4096, 2048)):
+        while True:
+            text = scattered(4 * count, rng.randrange(2**32), own)
+            entries, _ = ref.whole_entries(text.value)
+            hour, serial, _ = entries[at]
+            highest = max(s for h, s, _ in entries if h == hour) == serial
+            if highest and not ref.contradict(entries) and decides(text.value, at):
+                break
+        stream.resent(text)
+    for n in (16380, 16384, 16384, 16388, 16385, 32768, 65536):
+        stream.resent(scattered(n, rng.randrange(2**32), own))
+    for n, letters_of_all in (
+        (40, 3), (60, 5), (100, 10), (100, 10), (400, 30), (400, 60), (1000, 60), (4000, 200),
+        (16384, 2), (16384, 10), (16384, 128), (16384, 200),
+    ):
+        for _ in range(2):
+            first = rng.randrange(217 - letters_of_all)
+            own = bytes(range(first, first + letters_of_all))
+            stream.resent(scattered(n, rng.randrange(2**32), own))
+
+
+def made_entries(stream, rng):
+    """Of few hours and serials, so that many are superseded and many are equal; with a
+    conflict, an hour over 215 or a cut-off entry in some."""
+    for at in range(84):
+        hours = [rng.choice((0, 215, rng.randrange(216))) for _ in range(rng.randrange(1, 6))]
+        serials = [rng.choice(SERIALS + (rng.randrange(65536),)) for _ in range(6)]
+        letter, entries = {}, []
+        for _ in range(at // 3 + 1):
+            pair = rng.choice(hours), rng.choice(serials)
+            drawn = rng.choice((45, 97, 98, rng.randrange(256)))
+            entries.append(pair + (letter.setdefault(pair, drawn),))
+        fault = rng.randrange(12)
+        if fault < 3:
+            hour, serial, drawn = rng.choice(entries)
+            another = hour, serial, drawn ^ 2 ** rng.randrange(8)
+            entries.insert(rng.randrange(len(entries) + 1), another)
+        if fault in (2, 3):
+            over = rng.randrange(216, 256), rng.choice(serials), 97
+            entries.insert(rng.randrange(len(entries) + 1), over)
+        rest = bytes(rng.randrange(256) for _ in range(rng.randrange(1, 4)))
+        stream.resent(sent(*entries) + (rest if fault == 4 else b""))
+
+
 # --- All of them ----------------------------------------------------------------------------
 
 FAMILIES = (
@@ -2464,4 +2872,25 @@ FAMILIES = (
     first_with_a_lost_hour,
     bytes_from_an_hour,
     made_first,
+    lengths_of_entries,
+    hours_alone,
+    hours_together,
+    hours_over,
+    serials_of_an_hour,
+    serials_by_a_bit,
+    letters_sent_again,
+    marks_sent_again,
+    conflicts_at_the_edges,
+    conflicts_beside_others,
+    conflict_of_each_two,
+    no_conflicts,
+    equal_entries,
+    refused_for_two_reasons,
+    every_three_entries,
+    every_order,
+    larger_sets_in_some_orders,
+    serials_of_one_hour,
+    lone_conflicts,
+    scattered_entries,
+    made_entries,
 )

@@ -1,6 +1,7 @@
 """What a stream of cases reaches, taken from the stream as it is read back."""
 
 import itertools
+import math
 from collections import Counter
 
 import reference as ref
@@ -8,23 +9,23 @@ from compare import (
     METHODS, ORDERS, SHEET, Coverage, candidates, looks_of, windows_of, windows_of_method_6,
 )
 from vectors_stream import (
-    EXACT, FEED, FIRST, HAND, LOAD, MARKED, OPEN, REPORT, SAVE, SET_METHOD, SEVERAL, WHOLE,
-    WIDTH, First, Handed, Marked,
+    EXACT, FEED, FIRST, HAND, LOAD, MARKED, OPEN, REPORT, RESENT, SAVE, SET_METHOD, SEVERAL,
+    WHOLE, WIDTH, First, Handed, Marked,
 )
 
 NAMES = {
     WHOLE: "whole search", OPEN: "open", FEED: "feed", SET_METHOD: "set method", SAVE: "save",
     LOAD: "load", REPORT: "report", WIDTH: "width", EXACT: "exact", SEVERAL: "several patterns",
-    MARKED: "marked sheet", FIRST: "first match",
+    MARKED: "marked sheet", FIRST: "first match", RESENT: "readings sent again",
 }
 
-# Document 01, "When a call says no", and document 02, T-01, T-02, T-07 and T-08:
-# the numbers of each call.
+# Document 01, "When a call says no", and document 02, T-01, T-02, T-07, T-08 and
+# T-09: the numbers of each call.
 NUMBERS = {
     WHOLE: (*range(8), 13), OPEN: (*range(6), 13), FEED: (*range(10), 13),
     SET_METHOD: (0, 1, 2, 3, 4, 5, 9, 13), SAVE: (0, 1, 2, 3, 4, 5, 9, 10, 13),
     LOAD: (0, 1, 2, 3, 4, 5, 9, 13), SEVERAL: (0, 1, 2, 6, 7, 12, 13),
-    MARKED: (0, 1, 2, 3, 4, 5, 6, 7, 10, 13), FIRST: (*range(7), 13),
+    MARKED: (0, 1, 2, 3, 4, 5, 6, 7, 10, 13), FIRST: (*range(7), 13), RESENT: (0, 15, 16),
 }
 
 # The fewest cases of kinds that are easily thin.
@@ -89,6 +90,31 @@ FEWEST = {
     "no match from the start on, and one before it": 300,
     "no match at all, and windows from the start on": 25,
     "no window from the start on": 300,
+    "readings sent again with number 0": 950,
+    "readings sent again with number 15": 190,
+    "readings sent again with number 16": 310,
+    "hours with a reading that is superseded": 4000,
+    "equal entries, accepted": 200,
+    "4,095 or 4,096 entries, accepted": 25,
+    "sets of three to five entries in all their orders": 50,
+    "larger sets in another order, number 0": 15,
+    "larger sets in another order, number 15": 5,
+    "larger sets in another order, number 16": 5,
+    "conflicts with the highest serial of the hour alone": 150,
+    "conflicts under a higher serial alone": 120,
+    "two entries that conflict, side by side": 150,
+    "two entries that conflict, at both ends": 35,
+    "two entries that conflict, apart": 40,
+    "conflicts beside 1 bytes of an entry": 7,
+    "conflicts beside 2 bytes of an entry": 5,
+    "conflicts beside 3 bytes of an entry": 7,
+    "conflicts beside an hour over 215": 20,
+    "conflicts of hours over 215": 12,
+    "conflicts beside too many entries": 12,
+    "refused for 1 bytes of an entry alone": 10,
+    "refused for 2 bytes of an entry alone": 10,
+    "refused for 3 bytes of an entry alone": 10,
+    "refused for too many entries alone": 10,
 }
 
 # What is beside the lost-hour mark: the next bytes, and others by a bit.
@@ -100,6 +126,9 @@ ALSO_FAR = (
     255, 256, 2**16 - 1, 2**16, 2**32 - 2, 2**32 + 1, 2**63 - 1, 2**63 + 1, 2**64 - 3,
     2**64 - 63, 2**64 - 64,
 )
+
+# Serials of which every two are the only ones of an hour.
+SERIALS = 0, 1, 127, 128, 255, 256, 257, 32767, 32768, 65280, 65534, 65535
 
 # The calls that refuse with 3, 4 and 5.
 MEASURING = WHOLE, OPEN, FEED, SET_METHOD, SAVE, LOAD, REPORT, MARKED, FIRST
@@ -167,11 +196,22 @@ def tests_of(op, arguments, search):
     if op == FIRST:
         handed, k, method, text = arguments
         return terms_tests(handed.pattern, k, method) + [(6, len(text) > 65536)]
+    if op == RESENT:
+        entries = fours_of(arguments[0])
+        over = any(entry[0] > 215 for entry in entries)
+        conflict = len(set(entries)) > len({entry[:3] for entry in entries})
+        lengths = [(15, len(arguments[0]) > 16384), (15, len(arguments[0]) % 4 > 0)]
+        return lengths + [(15, over), (16, conflict)]
     if op == REPORT:
         method, k, pattern, _ = ref.parse_input(arguments[0]) or (1, 0, b"a", b"")
         bad = ref.parse_input(arguments[0]) is None
         return [(6, len(arguments[0]) > 16384), (11, bad)] + terms_tests(pattern, k, method)
     return []
+
+
+def fours_of(given):
+    """Entries as they are, each four bytes, without one that is cut off."""
+    return [given[at : at + 4] for at in range(0, len(given) - 3, 4)]
 
 
 def measured_terms(op, arguments, search):
@@ -234,6 +274,7 @@ EXAMPLES = {
     MARKED: ((Marked(0, b"a"), 0, 1, b"", 0), ref.BLANK),
     FIRST: ((First(0, b"a"), 0, 1, b""), ref.BLANK),
     REPORT: ((b"1 0 a\n",), ref.BLANK),
+    RESENT: ((b"",), ref.BLANK),
 }
 
 # --- Coverage ------------------------------------------------------------------
@@ -266,6 +307,9 @@ class VectorCoverage(Coverage):
         self.from_hours = set()
         self.first_own, self.first_others = set(), set()
         self.most_looks_first = 0
+        self.sent_again = set()
+        self.superseding, self.superseded = set(), set()
+        self.orders_of_entries = {}
 
     def case(self, op, arguments, number, before):
         """A case, and the stored search before it."""
@@ -301,6 +345,8 @@ class VectorCoverage(Coverage):
             self.marked(number, *arguments)
         elif op == FIRST and not number:
             self.first(*arguments)
+        elif op == RESENT:
+            self.resent(number, *arguments)
         terms = measured_terms(op, arguments, search)
         if terms and terms[2] in (2, 3, 4) and number in (0, 5):
             self.measured(op, number, *terms)
@@ -777,6 +823,207 @@ class VectorCoverage(Coverage):
         in_vain = "first matches after a window that method 6 verifies in vain"
         self.counts[in_vain] += {"failure", "match"} <= kinds
 
+    def resent(self, number, given):
+        """Entries sent again, by what becomes of them."""
+        entries, cut_off = ref.whole_entries(given)
+        self.counts["readings sent again with number %d" % number] += 1
+        self.sent_again.add(("bytes", len(given), "number", number))
+        if number == 0:
+            self.hours_sent(entries)
+            self.equal_ones(entries)
+            self.most_sent(entries)
+        elif number == 16:
+            self.conflict(entries)
+        else:
+            self.refused_at_once(entries, cut_off)
+        if not cut_off and len(entries) <= ref.MOST_ENTRIES:
+            self.order_of_entries(number, entries)
+
+    def hours_sent(self, entries):
+        """Which hours there are, and what is superseded in each."""
+        hours = [entry.hour for entry in entries]
+        if len(hours) == 1:
+            self.sent_again.add(("alone, hour", hours[0]))
+            self.sent_again.add(("alone, serial", entries[0].serial))
+            self.sent_again.add(("alone, letter", entries[0].letter))
+        left_out = set(range(216)) - set(hours)
+        if not left_out:
+            way = "ascending" if hours == sorted(hours) else "mixed"
+            way = "descending" if hours[::-1] == sorted(hours) else way
+            self.sent_again.add(("all hours", way))
+        if len(left_out) == 1:
+            self.sent_again.add(("all hours but", left_out.pop()))
+        of_hours = {}
+        for entry in entries:
+            of_hours.setdefault(entry.hour, []).append(entry)
+        for of_hour in of_hours.values():
+            self.superseded_in_an_hour(of_hour)
+        if len(set(entries)) == 2:
+            self.no_conflict(*dict.fromkeys(entries))
+
+    def superseded_in_an_hour(self, of_hour):
+        """The entries of an hour in their order, where the letter makes a difference."""
+        highest = max(of_hour, key=lambda entry: entry.serial)
+        others = {entry.letter for entry in of_hour if entry.serial < highest.serial}
+        if others - {highest.letter}:
+            self.superseding.add(highest.letter)
+            self.superseded |= others
+            place = place_in(of_hour.index(highest), len(of_hour))
+            self.sent_again.add(("the highest serial", place))
+            self.counts["hours with a reading that is superseded"] += 1
+        if len(of_hour) == 2 and others - {highest.letter}:
+            self.two_serials(*(entry.serial for entry in of_hour))
+
+    def two_serials(self, one, other):
+        """The serials of an hour's two entries, as they are handed in: how they differ,
+        and whether less than both bytes would tell which is the higher one."""
+        self.sent_again.add(("serials", one, other))
+        order, apart = "ascending" if one < other else "descending", one ^ other
+        lower, higher = min(one, other), max(one, other)
+        exchanged = [serial // 256 + 256 * (serial % 256) for serial in (lower, higher)]
+        for kind, holds in (
+            ("alike in the low byte", apart % 256 == 0),
+            ("alike in the high byte", apart < 256),
+            ("of another order by the low byte", lower % 256 > higher % 256),
+            ("of another order with the bytes exchanged", exchanged[0] > exchanged[1]),
+            ("of another order with a sign", lower < 32768 <= higher),
+            ("apart by half of the numbers", higher - lower == 32768),
+            ("apart by bit %d" % (apart.bit_length() - 1), apart & (apart - 1) == 0),
+        ):
+            if holds:
+                self.sent_again.add(("serials", kind, order))
+
+    def no_conflict(self, one, other):
+        """Two entries that might be taken for a conflict, and what they share."""
+        hours, serials = (one.hour, other.hour), (one.serial, other.serial)
+        in_both = list(zip(hours, serials))
+        hour, serial = hours[0] == hours[1], serials[0] == serials[1]
+        low, high = [s % 256 for s in serials], [s // 256 for s in serials]
+
+        def same(combined):
+            return combined(*in_both[0]) == combined(*in_both[1])
+
+        for kind, holds in (
+            ("serial", serial),
+            ("serial, hours by the top bit", serial and hours[0] ^ hours[1] == 128),
+            ("hour", hour),
+            ("hour and low byte", hour and low[0] == low[1]),
+            ("hour and high byte", hour and high[0] == high[1]),
+            ("hour and the bytes, exchanged", hour and low == high[::-1]),
+            ("sum", same(lambda h, s: h + s)),
+            ("exclusive or", same(lambda h, s: h ^ s)),
+            ("hour times 256 and serial", same(lambda h, s: 256 * h + s)),
+            ("hour times 216 and serial", same(lambda h, s: 216 * h + s)),
+            ("serial times 216 and hour in 16 bits", same(lambda h, s: (216 * s + h) % 65536)),
+        ):
+            if holds and one.letter != other.letter:
+                self.sent_again.add(("no conflict, but the same", kind))
+
+    def equal_ones(self, entries):
+        if not entries:
+            return
+        entry, often = Counter(entries).most_common(1)[0]
+        others = {other for other in entries if other.hour == entry.hour} - {entry}
+        for kind, holds in (
+            ("alone", len(set(entries)) == 1),
+            ("beside a higher serial", any(other.serial > entry.serial for other in others)),
+            ("beside a lower serial", any(other.serial < entry.serial for other in others)),
+            ("beside other hours", any(other.hour != entry.hour for other in entries)),
+        ):
+            if holds and often > 1:
+                self.sent_again.add(("equal entries", kind, often))
+                self.counts["equal entries, accepted"] += 1
+
+    def most_sent(self, entries):
+        """Many entries: how many serials of an hour, in which order; and whether the first
+        or the last one decides."""
+        count = len(entries)
+        if len({entry.hour for entry in entries}) == 1:
+            serials = [entry.serial for entry in entries]
+            if count >= 63 and len(set(serials)) == count:
+                way = "ascending" if serials == sorted(serials) else "mixed"
+                way = "descending" if serials[::-1] == sorted(serials) else way
+                self.sent_again.add(("serials of one hour", count, way))
+        if count < 4095:
+            return
+        self.counts["4,095 or 4,096 entries, accepted"] += 1
+        record = ref.record_of(entries)
+        for at in (0, count // 2, count - 1):
+            if ref.record_of(entries[:at] + entries[at + 1 :]) != record:
+                self.sent_again.add(("of", count, "one decides, the", place_in(at, count)))
+
+    def conflict(self, entries):
+        """Each hour and serial with two letters, and where the two entries are that
+        conflict, if there are no more."""
+        places, higher = {}, []
+        for at, entry in enumerate(entries):
+            places.setdefault(entry[:2], []).append(at)
+        same = [some for some in places.values() if len({entries[at] for at in some}) > 1]
+        for some in same:
+            hour, serial, _ = entries[some[0]]
+            serials = [entry.serial for entry in entries if entry.hour == hour]
+            higher.append(max(serials) > serial)
+            lower, letters = min(serials) < serial, len({entries[at] for at in some})
+            self.sent_again |= {
+                ("conflict", "higher", higher[-1], "lower", lower),
+                ("conflict", "entries", min(len(some), 4), "letters", min(letters, 4)),
+            }
+        self.counts["conflicts with the highest serial of the hour alone"] += not any(higher)
+        self.counts["conflicts under a higher serial alone"] += all(higher)
+        if [len(some) for some in same] == [2]:
+            self.two_that_conflict(entries, *same[0], higher[0])
+
+    def two_that_conflict(self, entries, one, other, higher):
+        hour, serial, letter = entries[one]
+        count, another = len(entries), entries[other].letter
+        kind = "side by side" if other == one + 1 else "apart"
+        if count > 2 and other - one == count - 1:
+            kind = "at both ends"
+        self.counts["two entries that conflict, " + kind] += 1
+        self.sent_again |= {
+            ("conflict", "hour", hour, "serial", serial),
+            ("conflict", "letters", letter, another),
+            ("conflict", "bits", letter ^ another),
+            ("conflict", "of", count, "at", one, other),
+            ("conflict", "of", count, "at", one, other, "higher", higher),
+        }
+
+    def refused_at_once(self, entries, cut_off):
+        """Number 15: the one hour over 215, and conflicts beside what is refused."""
+        over = [at for at, entry in enumerate(entries) if entry.hour > 215]
+        conflict, many = ref.contradict(entries), len(entries) > 4096
+        among = ref.contradict([entry for entry in entries if entry.hour < 216])
+        if len(over) == 1 and not cut_off and not many:
+            count, hour = len(entries), entries[over[0]].hour
+            size = "alone" if count == 1 else "few" if count < 9 else "many"
+            self.sent_again.add(("hour over 215", hour, size, place_in(over[0], count)))
+        alone = not conflict and not over
+        for kind, holds in (
+            ("conflicts of hours over 215", conflict and not among),
+            ("conflicts beside an hour over 215", over and among),
+            ("conflicts beside %d bytes of an entry" % len(cut_off), conflict),
+            ("conflicts beside too many entries", many and conflict),
+            ("refused for %d bytes of an entry alone" % len(cut_off), alone and not many),
+            ("refused for too many entries alone", alone and not cut_off),
+        ):
+            self.counts[kind] += bool(holds)
+
+    def order_of_entries(self, number, entries):
+        """Sets of entries that have come in all their orders, or in another one."""
+        orders = self.orders_of_entries.setdefault(tuple(sorted(entries)), set())
+        if tuple(entries) in orders:
+            return
+        orders.add(tuple(entries))
+        count, possible = len(entries), math.factorial(min(len(entries), 8))
+        for often in Counter(entries).values():
+            possible //= math.factorial(min(often, 8))
+        if 2 < count < 8 and len(orders) == possible:
+            hours = len({entry.hour for entry in entries})
+            self.sent_again.add(("all orders of", count, "hours", hours, "number", number))
+            self.counts["sets of three to five entries in all their orders"] += 1
+        if count >= 20 and len(orders) > 1:
+            self.counts["larger sets in another order, number %d" % number] += 1
+
     def first_line(self, given):
         if ref.parse_input(given) and len(given) <= ref.LONGEST_INPUT:
             method, k, pattern, text = ref.parse_input(given)
@@ -1105,6 +1352,96 @@ class VectorCoverage(Coverage):
             for before in ("none", "stop", "failure"):
                 yield "method 6", kind, "after", before
 
+    def wanted_sent_again(self):
+        """Both sides of the most entries and of an hour's end; every hour alone; all of
+        them in each order; an hour over 215 in each place; equal entries, once as many as
+        there may be; sets in all their orders; and of many entries one that decides."""
+        for n in (*range(29), *range(4095, 4101), *range(16379, 16390), *range(65532, 65538)):
+            yield "bytes", n, "number", 15 if n % 4 or n > 16384 else 0
+        for number in (0, 15, 16):
+            yield "bytes", 16384, "number", number
+        for hour in range(216):
+            yield "alone, hour", hour
+        for serial in SERIALS:
+            yield "alone, serial", serial
+        for letter in (0, 32, 44, 45, 46, 127, 128, 255):
+            yield "alone, letter", letter
+        for way in ("ascending", "descending", "mixed"):
+            yield "all hours", way
+            yield "serials of one hour", 63, way
+        for hour in (0, 128, 215):
+            yield "all hours but", hour
+        for count, way in ((4096, "descending"), (4096, "mixed"), (600, "ascending")):
+            yield "serials of one hour", count, way
+        for hour in (216, 217, 255):
+            yield "hour over 215", hour, "alone", "first"
+            for place in ("first", "middle", "last"):
+                yield "hour over 215", hour, "few", place
+                if hour != 217:
+                    yield "hour over 215", hour, "many", place
+        for often in (2, 3, 5, 216, 217, 256, 257, 4095, 4096):
+            yield "equal entries", "alone", often
+        for kind in ("beside a higher serial", "beside a lower serial", "beside other hours"):
+            yield "equal entries", kind, 2
+        for count, hours, number in (
+            (3, 1, 0), (3, 1, 16), (3, 2, 15), (3, 2, 16), (4, 1, 0), (4, 2, 0), (4, 2, 16),
+            (5, 2, 0),
+        ):
+            yield "all orders of", count, "hours", hours, "number", number
+        for count, place in ((4095, "last"), (4096, "first"), (4096, "middle"), (4096, "last")):
+            yield "of", count, "one decides, the", place
+
+    def wanted_serials(self):
+        """The highest in each place; every two at an edge, and two of which a part of
+        the bits tells something else, in both orders."""
+        for place in ("first", "middle", "last"):
+            yield "the highest serial", place
+        for one, other in itertools.permutations(SERIALS, 2):
+            yield "serials", one, other
+        for order in ("ascending", "descending"):
+            for kind in (
+                "alike in the low byte", "alike in the high byte",
+                "of another order by the low byte", "of another order with the bytes exchanged",
+                "of another order with a sign", "apart by half of the numbers",
+            ):
+                yield "serials", kind, order
+            for bit in range(16):
+                yield "serials", "apart by bit %d" % bit, order
+
+    def wanted_conflicts(self):
+        """Each two of a few entries, and some of the most there may be, with and without
+        a higher serial; hours, serials and letters at an edge; the mark and what is
+        beside it; and what is no conflict."""
+        for higher, lower in itertools.product((True, False), repeat=2):
+            yield "conflict", "higher", higher, "lower", lower
+        for count, letters in ((2, 2), (3, 2), (3, 3)):
+            yield "conflict", "entries", count, "letters", letters
+        for count in (2, 3, 4, 5, 8):
+            for places in itertools.combinations(range(count), 2):
+                yield ("conflict", "of", count, "at") + places
+        for count in (16, 17, 33, 64):
+            half, last = count // 2, count - 1
+            for places in ((0, last), (0, 1), (last - 1, last), (half - 1, half)):
+                yield ("conflict", "of", count, "at") + places
+        for places in ((0, 1), (0, 4095), (1, 4094), (2047, 2048), (4094, 4095)):
+            for higher in (True, False):
+                yield ("conflict", "of", 4096, "at") + places + ("higher", higher)
+        for hour in (0, 127, 128, 215):
+            for serial in (0, 1, 255, 256, 65534, 65535):
+                yield "conflict", "hour", hour, "serial", serial
+        for bit in range(8):
+            yield "conflict", "bits", 2**bit
+        for letter in (0, 32, 44, 46, 97, 173):
+            yield "conflict", "letters", ref.LOST, letter
+            yield "conflict", "letters", letter, ref.LOST
+        for kind in (
+            "serial", "serial, hours by the top bit", "hour", "hour and low byte",
+            "hour and high byte", "hour and the bytes, exchanged", "sum", "exclusive or",
+            "hour times 256 and serial", "hour times 216 and serial",
+            "serial times 216 and hour in 16 bits",
+        ):
+            yield "no conflict, but the same", kind
+
     def gaps(self):
         missing = []
         for op, numbers in NUMBERS.items():
@@ -1153,6 +1490,10 @@ class VectorCoverage(Coverage):
             for reached in wanted():
                 if reached not in self.from_hours:
                     missing.append("first match: %s" % (reached,))
+        for wanted in (self.wanted_sent_again, self.wanted_serials, self.wanted_conflicts):
+            for reached in wanted():
+                if reached not in self.sent_again:
+                    missing.append("readings sent again: %s" % (reached,))
         for order in ORDERS:
             number = 0 if order == (1, 2, 3, 4) else 9
             if (order, number) not in self.orders:
@@ -1164,6 +1505,8 @@ class VectorCoverage(Coverage):
             missing.append("byte values of method 6")
         if self.first_own != letters or self.first_others != letters:
             missing.append("byte values of a first match")
+        if min(len(self.superseding), len(self.superseded)) < 256:
+            missing.append("byte values of readings sent again")
         # The longest text and pattern, and every window verified.
         if min(self.most_looks, self.most_looks_first) < 2 * 64 * (65536 - 64 + 1):
             missing.append("the most looks")

@@ -35,6 +35,7 @@ Operations, their arguments, a and b, and what the digest is of:
     13 first       text handed, u8 k, u8 method, text
                    1 if there is a match from the start on, else 0, looks; its
                    position in 8 bytes, all of them 0 if there is none
+    14 resent      text entries; 0, 0; the record's 216 bytes
 What is handed to 11 has u32 places of the list of pattern numbers, u8 count,
 that many u64 lengths, and then the bytes of the patterns; what is handed to 12
 has u32 bytes of the sheet's buffer, and then the pattern; what is handed to 13
@@ -53,7 +54,7 @@ from collections import namedtuple
 import reference as ref
 
 WHOLE, OPEN, FEED, SET_METHOD, SAVE, LOAD, HAND, REPORT, WIDTH, EXACT = range(1, 11)
-SEVERAL, MARKED, FIRST = 11, 12, 13
+SEVERAL, MARKED, FIRST, RESENT = 11, 12, 13, 14
 
 # Several patterns: the places of the list of their numbers, their lengths, and
 # their bytes.
@@ -237,6 +238,11 @@ class Stream:
         digested = struct.pack("<Q", position or 0)
         return self.case(FIRST, arguments, number, found, looks, digested)
 
+    def resent(self, entries):
+        entries = as_text(entries)
+        number, record = ref.resent(entries.value)
+        return self.case(RESENT, entries.form, number, digested=record)
+
 
 # --- Reading --------------------------------------------------------------------
 
@@ -263,6 +269,7 @@ ARGUMENTS = {
         ("marked", 304), ("number", 1), ("number", 1), ("text", 65537), ("places", 65537),
     ),
     FIRST: (("first", 308), ("number", 1), ("number", 1), ("text", 65537)),
+    RESENT: (("text", 65537),),
 }
 
 

@@ -19,6 +19,8 @@ pub enum Refusal {
     BadRequest,
     PatternSet,
     LostHourInPattern,
+    BadEntries,
+    ConflictingEntries,
 }
 
 // The number that the table gives a refusal.
@@ -39,6 +41,8 @@ pub fn number_of(refusal: Refusal) -> usize
         Refusal::BadRequest => 11,
         Refusal::PatternSet => 12,
         Refusal::LostHourInPattern => 13,
+        Refusal::BadEntries => 15,
+        Refusal::ConflictingEntries => 16,
     }
 }
 

@@ -1,6 +1,6 @@
 -- Which call each kind of case asks for, and what the call comes to (tools/vectors_stream.py, "Operations"). What a call gives is said by its own
--- record: `Whole` of search_whole, `WholeSeveral` of several, `WholeSheet` of sheet, `AtOrAfter` of first, and `Opened`, `Feeds`, `SetsMethod`,
--- `Saves` and `Loads` of search.
+-- record: `Whole` of search_whole, `WholeSeveral` of several, `WholeSheet` of sheet, `AtOrAfter` of first, `Assembles` of resent, and `Opened`,
+-- `Feeds`, `SetsMethod`, `Saves` and `Loads` of search.
 use mathlib.Core.Path.{_≡_}
 use mathlib.Core.Bool.{cond}
 use mathlib.Core.List.{List, [], _++_}
@@ -24,6 +24,8 @@ use Rattle.search_whole.specs.Whole.{Whole}
 use Rattle.several.specs.Whole.{WholeSeveral}
 use Rattle.sheet.specs.Whole.{WholeSheet}
 use Rattle.first.specs.Call.{AtOrAfter}
+use Rattle.resent.specs.Call.{Assembles}
+use Rattle.resent.specs.declared.Assembled.{Assembled}
 use Rattle.search.specs.declared.Search.{Search}
 use Rattle.search.specs.declared.SearchResult.{SearchResult}
 use Rattle.search.specs.declared.FeedResult.{FeedResult}
@@ -69,6 +71,10 @@ abbrev pub firstOutcome : FirstAnswer → Outcome
 firstOutcome answer =
     outcomeOf (firstNumber answer) (Option·elim (firstPosition answer) 0 (λ position. 1)) (firstInspections answer)
     (digest 0 (lowFirst 8 (Option·getD (firstPosition answer) 0)))
+
+-- readings that were sent again: the number, and the digest of the text that was made of them
+abbrev pub resentOutcome : Assembled → Outcome
+resentOutcome r = outcomeOf (admissionNumber (r .admission)) 0 0 (digest 0 (r .text))
 
 -- the digest of the bytes that a call left in a list or a buffer, and then of the search
 abbrev pub digestWith : List ℕ → Search → ℕ
@@ -121,6 +127,10 @@ pub record MarkedMade (handed : List ℕ) (k method : ℕ) (T before after : Lis
 abbrev pub FirstMade : (handed : List ℕ) (k method : ℕ) (T : List ℕ) → Outcome → Type 0
 FirstMade handed k method T got = Came (AtOrAfter (patternAfterStart handed) k method T (startPosition handed)) firstOutcome got
 
+-- The text of nine days, made of the readings T
+abbrev pub ResentMade : (T : List ℕ) → Outcome → Type 0
+ResentMade T got = Came (Assembles T) resentOutcome got
+
 -- mixlist's output: its length, and the digest of it
 unfoldable pub reportOutcome : List ℕ → Outcome
 reportOutcome input = outcomeOf 0 (length (output input)) 0 (digest 0 (output input))
@@ -134,17 +144,19 @@ unfoldable pub exactNumber : List ℕ → ℕ
 exactNumber P = cond (ltb 64 (length P)) 0 (bit (exact P))
 
 -- The calls that no search is handed to, by the kind of the case: whole search (1), mixlist (8), the bits (9), exact (10), several patterns (11), a
--- search with its marked sheet (12) and the first match (13). Only 1, 11 and 12, which list what they find, change the list.
+-- search with its marked sheet (12), the first match (13) and readings that were sent again (14). Only 1, 11 and 12, which list what they find,
+-- change the list.
 unfoldable pub OutcomeMade : (op : ℕ) (P : List ℕ) (k method : ℕ) (T before after : List ℕ) → Outcome → Type 0
 OutcomeMade op P k method T before after got =
     cond (eqb op 1) (Came (Whole P k method T before after) (answerOutcome (digest 0 (listBytes after))) got)
     (cond (eqb op 11) (SeveralMade P k T before after got)
     (cond (eqb op 12) (MarkedMade P k method T before after got)
     (cond (eqb op 13) ((after ≡ before) × FirstMade P k method T got)
+    (cond (eqb op 14) ((after ≡ before) × ResentMade T got)
     ((after ≡ before)
     × (got
     ≡ cond (eqb op 8) (reportOutcome T)
-    (cond (eqb op 9) (numberOutcome (widthNumber P k method)) (numberOutcome (exactNumber P))))))))
+    (cond (eqb op 9) (numberOutcome (widthNumber P k method)) (numberOutcome (exactNumber P)))))))))
 
 -- Such a call leaves the search as it was
 pub record Beside (Made : Outcome → Type 0) (s : Search) (called : Called) : Type 0 where

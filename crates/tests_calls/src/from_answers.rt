@@ -35,7 +35,7 @@ pub fn answered(answer: Answer, digest: u64) -> Outcome
     }
 }
 
-// What open, set method and load answered.
+// What open, set method, load and resent answered.
 pub fn admitted(admission: Admission, digest: u64) -> Outcome
     ensures { λ r. ⌜ r ≡ outcomeOf (admissionNumber admission) 0 0 digest ⌝ }
 {

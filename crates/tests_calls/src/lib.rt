@@ -9,8 +9,8 @@ ghost use Rattle.several.specs.Whole.{WholeSeveral};
 ghost use Rattle.sheet.specs.Whole.{WholeSheet};
 ghost use Rattle.tests_outcomes.specs.Digests.{Digested, digest, listBytes};
 ghost use Rattle.tests_calls.specs.Calls.{Came, numberOutcome, answerOutcome, admissionCalled, feedCalled, saveCalled, SaveMade, knownBuffer};
-ghost use Rattle.tests_calls.specs.Calls.{SeveralMade, sheetOutcome, MarkedMade, FirstMade, reportOutcome, widthNumber, exactNumber};
-ghost use Rattle.tests_calls.specs.Calls.{OutcomeMade, CallMade};
+ghost use Rattle.tests_calls.specs.Calls.{SeveralMade, sheetOutcome, MarkedMade, FirstMade, ResentMade, reportOutcome};
+ghost use Rattle.tests_calls.specs.Calls.{widthNumber, exactNumber, OutcomeMade, CallMade};
 
 mod from_answers;
 mod searches;
@@ -200,6 +200,16 @@ fn call_first(handed: &[u8], k: u8, method: u8, text: &[u8]) -> Outcome
     first_answered(answer)
 }
 
+// Makes the text of nine days of readings that were sent again.
+fn call_resent(entries: &[u8]) -> Outcome
+    ensures { λ r. ⌜ ResentMade (now (entries .entry)) r ⌝ }
+{
+    let assembled = resent::assemble(entries);
+    let admission = assembled.admission;
+    let text = assembled.text;
+    admitted(admission, digest_bytes(0, &text))
+}
+
 // A buffer for every output of mixlist's function.
 fn report_room() -> [u8; OUTPUT_ROOM]
     ensures { λ r. ⌜ (r ≡ replicate 98560 0) × (98560 ≡ length r) ⌝ }
@@ -271,6 +281,7 @@ fn call_without(op: u8, pattern: &[u8], k: u8, method: u8, text: &[u8], list: &m
         11 => call_several(pattern, k, text, list),
         12 => call_marked(pattern, k, method, text, list),
         13 => call_first(pattern, k, method, text),
+        14 => call_resent(text),
         _ => number_outcome(exact(pattern)),
     }
 }

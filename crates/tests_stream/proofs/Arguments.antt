@@ -45,7 +45,7 @@ case-read stream at op es sought ek em searched ep =
 
 module _
     (stream : List ℕ) (at : ℕ) {number : Number} {case : Case} {P P′ T T′ : List ℕ}
-    (is : number ≡ numberAt stream at 1 13) where
+    (is : number ≡ numberAt stream at 1 14) where
   pub kind-none : number .value ≡ 0 → CaseRead stream nowhere (number .value) case P P′ T T′
       → StoredCase stream at case P P′ T T′
   unfolding kindAt

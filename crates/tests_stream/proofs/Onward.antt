@@ -107,9 +107,9 @@ module _ (stream : List ℕ) (long : length stream ≤ nowhere) where
   kind-onward : (at : ℕ) → at < length stream → Onward (at + 1) (kindAt stream at .next)
   unfolding kindAt
   kind-onward at inside =
-      let kind = numberAt stream at 1 13 in
+      let kind = numberAt stream at 1 14 in
       either-onward (λ (n : Number). n .next) (eqb (kind .value) 0) (numberWith 0 nowhere) kind
-      (record { no-earlier = omega arith; at-most = omega arith }) (number-past (at + 1) at 1 13 (omega arith) (omega arith))
+      (record { no-earlier = omega arith; at-most = omega arith }) (number-past (at + 1) at 1 14 (omega arith) (omega arith))
 
   pub case-onward : (at : ℕ) → at < length stream → Onward (at + 1) (storedCase stream at .next)
   unfolding storedCase

@@ -31,7 +31,8 @@ shapeOf op =
     (cond (eqb op 11) (shape 1024 65537 1 0 4 65537)
     (cond (eqb op 12) (shape 304 65537 1 1 4 65537)
     (cond (eqb op 13) (shape 308 65537 1 1 0 0)
-    (shape 0 0 0 0 0 0))))))))))))
+    (cond (eqb op 14) (shape 0 65537 0 0 0 0)
+    (shape 0 0 0 0 0 0)))))))))))))
 
 -- The text of a case, at its place: of the kind 7 it is a search's 149 bytes, as they stand there. How it is spelled; its length and the place
 -- after it
@@ -81,7 +82,7 @@ pub record CaseRead (stream : List ℕ) (at op : ℕ) (case : Case) (P P′ T T�
 -- The kind of the case at a place, and the place after it; 0 is no kind, and nothing follows it
 unfoldable pub kindAt : List ℕ → ℕ → Number
 kindAt stream at =
-    let kind = numberAt stream at 1 13 in
+    let kind = numberAt stream at 1 14 in
     cond (eqb (kind .value) 0) (numberWith 0 nowhere) kind
 
 -- The case at a place: its kind, and then its arguments

@@ -67,6 +67,8 @@ fn shape_of(op: u8) -> Shape
         12 => Shape(304, 65537, 1, 1, 4, 65537),
         // the first match from a position on, which stands before the pattern; no list is lent
         13 => Shape(308, 65537, 1, 1, 0, 0),
+        // readings that were sent again
+        14 => Shape(0, 65537, 0, 0, 0, 0),
         _ => Shape(0, 0, 0, 0, 0, 0),
     }
 }
@@ -111,7 +113,7 @@ pub fn read_case(stream: &[u8], at: usize, pattern: &mut [u8], text: &mut [u8]) 
     ensures { λ r. ⌜ Lendable (r .pattern) (now (pattern .exit)) (r .text) (now (text .exit)) (r .places) ⌝ }
     ensures { λ r. ⌜ StoredCase (now (stream .entry)) at r (now (pattern .entry)) (now (pattern .exit)) (now (text .entry)) (now (text .exit)) ⌝ }
 {
-    let number = read_number(stream, at, 1, 13);
+    let number = read_number(stream, at, 1, 14);
     let op = number.value as u8;
     if op == 0 {
         return read_arguments(stream, NOWHERE, op, pattern, text);

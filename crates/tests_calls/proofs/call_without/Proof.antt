@@ -27,6 +27,9 @@ call-marked-requires c κs = search needs
 call-first-requires : tie.Need-call-first-requires
 call-first-requires c κs = search needs
 
+call-resent-requires : tie.Need-call-resent-requires
+call-resent-requires c κs = search needs
+
 exact-requires : tie.Need-exact-requires
 exact-requires c κs = search needs
 
@@ -74,17 +77,22 @@ returns-6 c = rw (c .before .match .keys6) (refl, c .call-first .ensures)
 
 returns-7 : tie.Need-returns-7
 unfolding OutcomeMade
-returns-7 c =
+returns-7 c = rw (c .before .match .keys7) (refl, c .call-resent .ensures)
+
+returns-8 : tie.Need-returns-8
+unfolding OutcomeMade
+returns-8 c =
     let arm : tie.At-match-rest = c .before .before in
     let op = arm .before .before .before .before .args .op in
     let none = arm .match .rest in
     rw (
-      ne-eqb op 1 (none .0 .0 .0 .0 .0 .1),
-      ne-eqb op 8 (none .0 .0 .0 .0 .1),
-      ne-eqb op 9 (none .0 .0 .0 .1),
-      ne-eqb op 11 (none .0 .0 .1),
-      ne-eqb op 12 (none .0 .1),
-      ne-eqb op 13 (none .1),
+      ne-eqb op 1 (none .0 .0 .0 .0 .0 .0 .1),
+      ne-eqb op 8 (none .0 .0 .0 .0 .0 .1),
+      ne-eqb op 9 (none .0 .0 .0 .0 .1),
+      ne-eqb op 11 (none .0 .0 .0 .1),
+      ne-eqb op 12 (none .0 .0 .1),
+      ne-eqb op 13 (none .0 .1),
+      ne-eqb op 14 (none .1),
     )
     (refl, rw (c .number-outcome2 .ensures, c .before .exact .ensures))
 
@@ -99,6 +107,7 @@ call-without-spec =
     call-several-requires
     call-marked-requires
     call-first-requires
+    call-resent-requires
     exact-requires
     number-outcome-requires-2
     same-length
@@ -110,4 +119,5 @@ call-without-spec =
     same-length-3
     returns-5
     returns-6
-    returns-7)
+    returns-7
+    returns-8)

@@ -56,23 +56,28 @@ returns-12 c = (search needs, rw (c .match .keys12) refl)
 
 returns-13 : tie.Need-returns-13
 unfolding shapeOf
-returns-13 c =
+returns-13 c = (search needs, rw (c .match .keys13) refl)
+
+returns-14 : tie.Need-returns-14
+unfolding shapeOf
+returns-14 c =
     let op = c .before .args .op in
     let none = c .match .rest in (
       search needs,
       rw (
-        ne-eqb op 1 (none .0 .0 .0 .0 .0 .0 .0 .0 .0 .0 .0 .1),
-        ne-eqb op 2 (none .0 .0 .0 .0 .0 .0 .0 .0 .0 .0 .1),
-        ne-eqb op 3 (none .0 .0 .0 .0 .0 .0 .0 .0 .0 .1),
-        ne-eqb op 4 (none .0 .0 .0 .0 .0 .0 .0 .0 .1),
-        ne-eqb op 5 (none .0 .0 .0 .0 .0 .0 .0 .1),
-        ne-eqb op 6 (none .0 .0 .0 .0 .0 .0 .1),
-        ne-eqb op 8 (none .0 .0 .0 .0 .0 .1),
-        ne-eqb op 9 (none .0 .0 .0 .0 .1),
-        ne-eqb op 10 (none .0 .0 .0 .1),
-        ne-eqb op 11 (none .0 .0 .1),
-        ne-eqb op 12 (none .0 .1),
-        ne-eqb op 13 (none .1),
+        ne-eqb op 1 (none .0 .0 .0 .0 .0 .0 .0 .0 .0 .0 .0 .0 .1),
+        ne-eqb op 2 (none .0 .0 .0 .0 .0 .0 .0 .0 .0 .0 .0 .1),
+        ne-eqb op 3 (none .0 .0 .0 .0 .0 .0 .0 .0 .0 .0 .1),
+        ne-eqb op 4 (none .0 .0 .0 .0 .0 .0 .0 .0 .0 .1),
+        ne-eqb op 5 (none .0 .0 .0 .0 .0 .0 .0 .0 .1),
+        ne-eqb op 6 (none .0 .0 .0 .0 .0 .0 .0 .1),
+        ne-eqb op 8 (none .0 .0 .0 .0 .0 .0 .1),
+        ne-eqb op 9 (none .0 .0 .0 .0 .0 .1),
+        ne-eqb op 10 (none .0 .0 .0 .0 .1),
+        ne-eqb op 11 (none .0 .0 .0 .1),
+        ne-eqb op 12 (none .0 .0 .1),
+        ne-eqb op 13 (none .0 .1),
+        ne-eqb op 14 (none .1),
       ) refl,
     )
 
@@ -92,4 +97,5 @@ shape-of-spec =
     returns-10
     returns-11
     returns-12
-    returns-13)
+    returns-13
+    returns-14)
