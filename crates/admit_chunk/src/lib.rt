@@ -1,5 +1,7 @@
 // How long a text or a chunk may be, in itself, for the list and for the total n: document 01, "When a call says no", 6 to 8.
 
+#![tactic(auto)]
+
 ghost use Rattle.std.specs.Prelude.{◌≡◌};
 ghost use Rattle.jumbled.specs.Refusals.{given};
 ghost use Rattle.answers.specs.Numbers.{admission_number};

@@ -1,5 +1,7 @@
 // Which patterns, tolerances and methods are taken: document 01, "When a call says no", 1 to 5; document 02, T-03, T-04 and, for 13, T-07.
 
+#![tactic(auto)]
+
 ghost use Rattle.std.specs.Prelude.{◌≡◌, ◌≤◌, length, replicate};
 ghost use Rattle.jumbled.specs.Refusals.{given, is_method, exact_only, method_tests, pattern_tests};
 ghost use Rattle.table_parikh.specs.Table.{parikh};

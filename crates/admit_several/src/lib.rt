@@ -1,6 +1,8 @@
 // Which patterns are taken together, and which texts and lists with them: document 02, T-01 and, for 13, T-07, and document 01, "When a call says no",
 // 1, 2, 6 and 7.
 
+#![tactic(auto)]
+
 ghost use Rattle.std.specs.Prelude.{◌≡◌, not, ◌++◌, ◌≤◌, eqb};
 ghost use Rattle.jumbled.specs.Refusals.{given, any_of, bad_length, each_length_tests, set_tests, several_pattern_tests};
 ghost use Rattle.answers.specs.Numbers.{admission_number};

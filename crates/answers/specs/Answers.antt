@@ -6,13 +6,9 @@ use Rattle.answers.specs.Numbers.{number_of}
 use Rattle.answers.specs.declared.Answer.{Answer}
 use Rattle.answers.specs.declared.Answer.TheVariants.{Listed, Refused}
 use Rattle.answers.specs.declared.SheetAnswer.{SheetAnswer}
-use Rattle.answers.specs.declared.SheetAnswer.TheVariants as SheetAnswer
 use Rattle.answers.specs.declared.FirstAnswer.{FirstAnswer}
-use Rattle.answers.specs.declared.FirstAnswer.TheVariants as FirstAnswer
 use Rattle.answers.specs.declared.ChargeAnswer.{ChargeAnswer}
-use Rattle.answers.specs.declared.ChargeAnswer.TheVariants as ChargeAnswer
 use Rattle.answers.specs.declared.Saving.{Saving}
-use Rattle.answers.specs.declared.Saving.TheVariants as Saving
 
 -- ---- of a search of a text or of a chunk
 

@@ -1,6 +1,8 @@
 // What the calls answer: why a call is refused, the number that says so, and the values of an answer. Document 01, "When a call says no"; from 12
 // on the numbers of document 02, which join that table.
 
+#![tactic(auto)]
+
 ghost use Rattle.std.specs.Prelude.{◌≡◌};
 ghost use Rattle.answers.specs.Numbers.{number_of};
 

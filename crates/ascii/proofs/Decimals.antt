@@ -43,6 +43,7 @@ decimal-large n l =
 -- so what holds of numbers of one digit, and goes on from n / 10 to n, holds of all
 module _ (Holds : ℕ → Type 0) (one : (n : ℕ) → n < 10 → Holds n) (more : (n : ℕ) → 10 ≤ n → Holds (n / 10) → Holds n) where
   below : (bound n : ℕ) → n < bound → Holds n
+  below zero n h = elim h [ ]
   below (suc bound) n h =
       ⊎_elim (λ (l : n < 10). one n l) (λ (l : 10 ≤ n). more n l (below bound (n / 10) (omega arith))) (below_or_not n 10)
 

@@ -1,5 +1,7 @@
 // A whole search and what the hours that it marks cost: document 02, T-10.
 
+#![tactic(auto)]
+
 ghost use Rattle.charge.specs.Whole.{WholeCharge};
 
 use answers::Admission;

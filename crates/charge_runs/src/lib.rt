@@ -1,5 +1,7 @@
 // What the hours come to that windows cover, in one pass over the positions at which the windows begin (document 02, T-10).
 
+#![tactic(auto)]
+
 ghost use Rattle.std.specs.Prelude.{◌≡◌, ◌≤◌};
 ghost use Rattle.charge_form.specs.Charge.{sixes_begun};
 ghost use Rattle.charge_runs.specs.Covering.{Coverable, Covers};

@@ -1,5 +1,7 @@
 // Methods 2, 3, 4 and 6 over a tail followed by a chunk: first the windows of the seam, then those of the chunk that the last scan did not pass over.
 
+#![tactic(auto)]
+
 ghost use Rattle.std.specs.Prelude.{◌≡◌, ◌≤◌, length};
 ghost use Rattle.jumbled.specs.Steps.{ebl_scan};
 ghost use Rattle.table_parikh.specs.Table.{parikh};

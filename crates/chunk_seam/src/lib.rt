@@ -1,5 +1,7 @@
 // A tail and the chunk after it, made ready for a search that does not join them: which windows start in each, and the seam, which holds those that start in the tail.
 
+#![tactic(auto)]
+
 ghost use Rattle.std.specs.Prelude.{◌≡◌, ◌++◌, ◌+◌, ◌-◌, ◌^◌, ◌≤◌, ◌<◌, length, take};
 ghost use Rattle.chunk_seam.specs.Seam.{seam_of};
 ghost use Rattle.chunk_seam.specs.Joined.{Parted};

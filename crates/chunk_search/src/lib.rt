@@ -1,5 +1,7 @@
 // A search of a tail followed by a chunk by any method, without joining them: first the windows that start in the tail, then those in the chunk.
 
+#![tactic(auto)]
+
 ghost use Rattle.std.specs.Prelude.{◌++◌};
 ghost use Rattle.chunk_search.specs.Searchable.{Searchable, SplitSearchable, Stepped, SplitStepped};
 

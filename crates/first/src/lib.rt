@@ -1,5 +1,7 @@
 // The first match at or after a given position of a whole text: document 02, T-08.
 
+#![tactic(auto)]
+
 ghost use Rattle.first.specs.Call.{AtOrAfter};
 
 use answers::Admission;

@@ -1,6 +1,8 @@
 // Reads the saved form of a search from a slice: document 01, "The saved image", and document 02, T-06. First what the four entries say of the bodies,
 // then the tests of the form and the parts themselves.
 
+#![tactic(auto)]
+
 ghost use Rattle.std.specs.Prelude.{◌≡◌, not, false, ◌+◌, ◌*◌, ◌^◌, ◌≤◌, ◌<◌, length};
 ghost use Rattle.image_form.specs.Decode.{length_of, end_of, body_of, kinds_right, bad_form, parts_of};
 

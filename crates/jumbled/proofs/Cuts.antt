@@ -330,6 +330,7 @@ module _ (judged : List ℕ → Judged) (m : ℕ) (T : List ℕ) where
   pub forward-primed : (s left cost : ℕ) → 0 < left
       → forward judged m T s left (cost + 1) ≡ record { occurrences = []; inspections = cost } then forward judged m T s left 1
   unfolding forward
+  forward-primed s zero cost h = elim h [ ]
   forward-primed s (suc left) cost h =
       let w : Judged = judged (window m T s) in
       let rest : Result = forward judged m T (suc s) left 1 in

@@ -31,6 +31,7 @@ kept g v h some starts room =
     record { top = ⊎_elim over under (below_or_not v h); holds = omega (arith, doubled g some) }
   where
     doubled : (n : ℕ) → 0 < n → 2 * 2 ^ (n - 1) ≡ 2 ^ n
+    doubled zero l = elim l [ ]
     doubled (suc n) l = let less : suc n - 1 ≡ n = omega arith in rw (less, pow-succ' 2 n) refl
 
     over : v < h → eqb (((2 ^ (g - 1) - v - 1) + h) / 2 ^ (g - 1) % 2) 1 ≡ ltb v h

@@ -1,1 +1,3 @@
 // Jumbled matching: definitions (specs/) and the theorems about them (proofs/). No code.
+
+#![tactic(auto)]

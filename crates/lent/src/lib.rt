@@ -1,6 +1,8 @@
 // What is lent to a search and what a search hands back: the window starts that a loop goes through and where their positions go, and bytes
 // copied or repeated into a lent buffer. What a loop or a writer then says it did is in specs/.
 
+#![tactic(auto)]
+
 ghost use Rattle.std.specs.Prelude.{◌≡◌, ◌+◌, ◌≤◌, min, length, replicate};
 ghost use Rattle.lent.specs.Written.{Written};
 

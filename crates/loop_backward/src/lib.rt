@@ -1,6 +1,8 @@
 // What the search loops of methods 2, 3 and 4 have in common (document 01, "The five methods"): each goes through the window starts of one
 // range of a text.
 
+#![tactic(auto)]
+
 ghost use Rattle.std.specs.Prelude.{◌≡◌, ◌+◌, ◌^◌, ◌<◌};
 
 // Where a loop stands: the next window start, the list's next place, and the inspections made.

@@ -3,6 +3,8 @@
 // byte, one inspection, judges the window, and lets the byte at s leave. So a search can go on in another slice with the state that it has, and
 // no byte is taken twice.
 
+#![tactic(auto)]
+
 ghost use Rattle.loop_forward.specs.Counting.{CountStartable, CountStarts};
 ghost use Rattle.loop_forward.specs.Hashing.{HcamStartable, HcamStarts};
 

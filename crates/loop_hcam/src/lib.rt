@@ -1,5 +1,7 @@
 // Method 5 (document 01, "The five methods"): the heap values of a sliding window's bytes are summed. How the window slides is said in the crate
 // loop_forward.
+
+#![tactic(auto)]
 ghost use Rattle.std.specs.Prelude.{◌≡◌, ◌≤◌, ◌||◌, length, nat_lt};
 ghost use Rattle.loop_hcam.specs.Hashing.{Finds, HcamSearchable, HcamSearches};
 

@@ -1,4 +1,6 @@
 // The program mixlist: a request on standard input, its answer on standard output (document 01, "The program").
+
+#![tactic(auto)]
 use libc::{STDIN_FILENO, STDOUT_FILENO};
 use program_report::{INPUT_ROOM, OUTPUT_ROOM};
 

@@ -1,6 +1,8 @@
 // The lines of the program mixlist's output, and the words and numbers in base ten that they are made of, written into a lent buffer (document 01,
 // "The program"). Each function but the last writes from the place `at` on; each answers with the place after what it wrote.
 
+#![tactic(auto)]
+
 ghost use Rattle.std.specs.Prelude.{◌++◌, ◌+◌, ◌≤◌, length, take};
 ghost use Rattle.lent.specs.Written.{Written};
 ghost use Rattle.ascii.specs.Decimal.{decimal};

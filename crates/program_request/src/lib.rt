@@ -1,5 +1,7 @@
 // What the program mixlist's input asks for: first its first line and the fields of that, then all of it (document 01, "The program").
 
+#![tactic(auto)]
+
 ghost use Rattle.std.specs.Prelude.{◌≡◌, true, ◌+◌, ◌≤◌, length, drop};
 ghost use Rattle.ascii.specs.Decimal.{decimal_value};
 ghost use Rattle.program_request.specs.Line.{before_first, digit, method_form, tolerance_form};

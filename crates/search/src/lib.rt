@@ -1,5 +1,7 @@
 // Searches: document 01, "A search and its calls".
 
+#![tactic(auto)]
+
 ghost use Rattle.std.specs.Prelude.{◌≡◌};
 ghost use Rattle.image_form.specs.Image.{parts_with};
 ghost use Rattle.admit_pattern.specs.Admits.{Admits};

@@ -1,5 +1,7 @@
 // What a search keeps between its calls, and the tests of it: document 01, "A search and its calls" and "When a call says no".
 
+#![tactic(auto)]
+
 ghost use Rattle.std.specs.Prelude.{◌≡◌, ◌++◌, ◌+◌, ◌≤◌, length};
 ghost use Rattle.jumbled.specs.Refusals.{given, tail_length, search_tests};
 ghost use Rattle.admit_pattern.specs.Admits.{Admits};

@@ -1,6 +1,8 @@
 // Whole search: document 01, "A search and its calls". Its tests and its steps are functions of their own, for calls that test more in between; no
 // caller of the engine needs these two.
 
+#![tactic(auto)]
+
 ghost use Rattle.jumbled.specs.Refusals.{given, whole_tests};
 ghost use Rattle.admit_pattern.specs.Admits.{Admits};
 ghost use Rattle.search_whole.specs.Whole.{Taken, Searched, Whole};

@@ -1,5 +1,7 @@
 // A search for several patterns in one pass: document 02, T-01.
 
+#![tactic(auto)]
+
 ghost use Rattle.several.specs.Whole.{WholeSeveral};
 
 use answers::Admission;

@@ -2,6 +2,8 @@
 // eight bits, the first one the lowest. In the window's word a field's top bit says that the pattern is found. In a byte's word it says that the
 // pattern has more of the byte than the window, so that one more would be acceptable, as a lost hour always is (document 02, T-07).
 
+#![tactic(auto)]
+
 ghost use Rattle.std.specs.Prelude.{◌*◌, ◌+◌, ◌≤◌, ◌<◌, ◌≡◌};
 ghost use Rattle.several_fields.specs.Words.{FieldsFor, Placeable, units_added, Placing, Placed, Taking, Taken, Giving, Given};
 

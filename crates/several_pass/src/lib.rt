@@ -1,6 +1,8 @@
 // The pass of a search for several patterns (document 02, T-01; Mcount in document 000, section 2, algorithm 2). Two words are touched for each byte
 // of the text, that of the byte that enters the window and that of the byte that leaves it, and one test tells whether any pattern is found.
 
+#![tactic(auto)]
+
 ghost use Rattle.several_pass.specs.Passing.{Notable, Notes, Startable, Starts, Passable, Passes};
 
 use lent::SearchCounts;

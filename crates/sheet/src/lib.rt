@@ -1,5 +1,7 @@
 // A whole search and its marked sheet: document 02, T-02.
 
+#![tactic(auto)]
+
 ghost use Rattle.sheet.specs.Whole.{WholeSheet};
 
 use answers::Admission;

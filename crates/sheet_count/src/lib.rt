@@ -1,6 +1,8 @@
 // How many positions a search lists, known before any list is written: a sheet that would not fit its buffer is refused with nothing written
 // (document 02, T-02).
 
+#![tactic(auto)]
+
 ghost use Rattle.std.specs.Prelude.{◌≡◌, length};
 ghost use Rattle.jumbled.specs.Match.{positions};
 ghost use Rattle.sheet_count.specs.Counting.{Countable};

@@ -1,6 +1,8 @@
 // Writes the marked sheet (document 02, T-02) into a lent buffer: column by column, line by line, page by page. Each function that writes does so from
 // the place `at` on and answers with the place after what it wrote; `write_sheet` alone begins at the buffer's start.
 
+#![tactic(auto)]
+
 ghost use Rattle.std.specs.Prelude.{◌≡◌, map, ◌+◌, ◌≤◌, length};
 ghost use Rattle.lent.specs.Written.{Written};
 ghost use Rattle.ascii.specs.Decimal.{decimal};

@@ -1,5 +1,7 @@
 // The packed word of methods 2, 3 and 4: its start value, its top bits, and the tables of its fields, which go into arrays of the caller.
 
+#![tactic(auto)]
+
 ghost use Rattle.std.specs.Prelude.{◌≡◌, ◌+◌, ◌-◌, ◌^◌, ◌≤◌, replicate};
 ghost use Rattle.table_packed.specs.Word.{FieldPlaced, Packing, SharedField, PackedBy, SharedTops, OwnTopsBy};
 

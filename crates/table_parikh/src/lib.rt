@@ -1,4 +1,7 @@
 // Parikh vectors: how often each byte occurs in a pattern or a window, as an array of 256 counters; and a window verified by them.
+
+#![tactic(auto)]
+
 ghost use Rattle.std.specs.Prelude.{◌≡◌, ◌≤◌, length};
 ghost use Rattle.jumbled.specs.Match.{cc, lost_hour};
 ghost use Rattle.table_parikh.specs.Table.{parikh, AllowedBy, within_counts};

@@ -1,5 +1,7 @@
 // How wide the fields of methods 2, 3 and 4 are: document 01, "The five methods", and document 02, T-03.
 
+#![tactic(auto)]
+
 ghost use Rattle.std.specs.Prelude.{◌≡◌, ◌≤◌, max, length};
 ghost use Rattle.jumbled.specs.Match.{sum};
 ghost use Rattle.jumbled.specs.Fields.{lg as lg_of, letter_width, layout_of, width_of, bits};

@@ -1,6 +1,8 @@
 // What is compared of a stored case (tools/vectors_stream.py): digests of what its call leaves behind, and outcomes, which are read from the
 // stream, compared and printed. Each digest goes on from the digest of the bytes before.
 
+#![tactic(auto)]
+
 ghost use Rattle.std.specs.Prelude.{◌≡◌, ◌+◌, ◌≤◌, ◌<◌, length};
 ghost use Rattle.image_form.specs.Image.{low_first};
 ghost use Rattle.tests_outcomes.specs.Digests.{Digested, digest_step, list_bytes, field_bytes};

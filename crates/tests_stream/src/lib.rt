@@ -2,6 +2,8 @@
 // over beside a pattern in a module each. An item that can't be read counts as 0 or as empty and leads to a place past the stream's end, and so does
 // every item after it: whoever reads a case asks once, at its end, whether all of it could be read.
 
+#![tactic(auto)]
+
 ghost use Rattle.std.specs.Prelude.{◌≡◌, ◌≤◌, length, replicate};
 ghost use Rattle.image_form.specs.Decode.{from_low_first};
 ghost use Rattle.tests_stream.specs.Fillings.{Filled, known_place, known_byte, letter_index, letter_at, made_length};

@@ -1,5 +1,7 @@
 // The program vectors: stored cases on standard input, each run and compared with its stored outcome. tools/vectors_stream.py says how the
 // stream is laid out, and tools/make_vectors.py makes it.
+
+#![tactic(auto)]
 ghost use Rattle.std.specs.Prelude.{◌≡◌, ◌+◌, ◌^◌, ◌≤◌, ◌<◌, length, replicate};
 ghost use Rattle.vectors.specs.Runs.{CaseRun, tallied, TallyOf};
 
