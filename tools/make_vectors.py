@@ -59,7 +59,7 @@ def replay(data, coverage):
         vs.HAND: lambda *fields: stream.hand(ref.Stored(*fields)),
         vs.REPORT: stream.report, vs.WIDTH: stream.width, vs.EXACT: stream.exact,
         vs.SEVERAL: stream.several, vs.MARKED: stream.marked, vs.FIRST: stream.first,
-        vs.RESENT: stream.resent, vs.CHARGED: stream.charged,
+        vs.RESENT: stream.resent,
     }
     different = []
     for op, arguments, outcome in vs.read_cases(data):

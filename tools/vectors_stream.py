@@ -36,14 +36,10 @@ Operations, their arguments, a and b, and what the digest is of:
                    1 if there is a match from the start on, else 0, looks; its
                    position in 8 bytes, all of them 0 if there is none
     14 resent      text entries; 0, 0; the record's 216 bytes
-    15 charged     text handed, u8 k, u8 method, text, u32 places
-                   found, looks; the list, then the marked hours in 8 bytes,
-                   then the charge in 8 bytes
 What is handed to 11 has u32 places of the list of pattern numbers, u8 count,
 that many u64 lengths, and then the bytes of the patterns; what is handed to 12
 has u32 bytes of the sheet's buffer, and then the pattern; what is handed to 13
-has u64 start, and then the pattern; what is handed to 15 has u64 rate, and then
-the pattern.
+has u64 start, and then the pattern.
 The calls 2 to 6 work on one search, at first the blank one.  Place i of a list
 holds (i * 2654435761 + 12345) % 2^32 before the call, byte i of a buffer
 (i * 37 + 11) % 256.  A digest starts at 0 and takes in a byte as
@@ -58,7 +54,7 @@ from collections import namedtuple
 import reference as ref
 
 WHOLE, OPEN, FEED, SET_METHOD, SAVE, LOAD, HAND, REPORT, WIDTH, EXACT = range(1, 11)
-SEVERAL, MARKED, FIRST, RESENT, CHARGED = 11, 12, 13, 14, 15
+SEVERAL, MARKED, FIRST, RESENT = 11, 12, 13, 14
 
 # Several patterns: the places of the list of their numbers, their lengths, and
 # their bytes.
@@ -69,10 +65,6 @@ Marked = namedtuple("Marked", "room pattern")
 
 # A search for the first match: the position from which on it is, and the pattern.
 First = namedtuple("First", "start pattern")
-
-# A search and the charge for the hours that it covers: the rate in cents, and the
-# pattern.
-Charged = namedtuple("Charged", "rate pattern")
 
 # --- Texts --------------------------------------------------------------------
 
@@ -251,18 +243,6 @@ class Stream:
         number, record = ref.resent(entries.value)
         return self.case(RESENT, entries.form, number, digested=record)
 
-    def charged(self, handed, k, method, text, places):
-        text = as_text(text)
-        rate, pattern = handed
-        filled = list(fresh_places(places))
-        number, found, looks, hours, charge = ref.charged(
-            pattern, k, method, text.value, filled, rate
-        )
-        arguments = literal(struct.pack("<Q", rate) + pattern).form
-        arguments += bytes([k, method]) + text.form + struct.pack("<I", places)
-        digested = list_bytes(filled) + struct.pack("<QQ", hours, charge)
-        return self.case(CHARGED, arguments, number, found, looks, digested)
-
 
 # --- Reading --------------------------------------------------------------------
 
@@ -290,9 +270,6 @@ ARGUMENTS = {
     ),
     FIRST: (("first", 308), ("number", 1), ("number", 1), ("text", 65537)),
     RESENT: (("text", 65537),),
-    CHARGED: (
-        ("charged", 308), ("number", 1), ("number", 1), ("text", 65537), ("places", 65537),
-    ),
 }
 
 
@@ -347,10 +324,6 @@ class Reader:
     def first(self, longest):
         front = Reader(self.text(longest).value)
         return First(front.number(8), front.data[front.at :])
-
-    def charged(self, longest):
-        front = Reader(self.text(longest).value)
-        return Charged(front.number(8), front.data[front.at :])
 
 
 def read_cases(data):

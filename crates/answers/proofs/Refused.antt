@@ -6,7 +6,7 @@ use native.Mathlib.Omega.{arith}
 use lib.Dec.{eqb, lit<}
 use borrow.Author.Tests.{eq-eqb, ne_eqb}
 use Rattle.answers.specs.declared.Refusal.{Refusal}
-use Rattle.answers.specs.declared.Refusal.TheVariants.{PatternLength, ToleranceTooLarge, UnknownMethod, ToleranceNotTaken, FieldsTooWide, TextTooLong, TooFewPlaces, TotalTooLarge, Malformed, BufferTooShort, BadRequest, PatternSet, LostHourInPattern, BadEntries, ConflictingEntries, RateTooHigh}
+use Rattle.answers.specs.declared.Refusal.TheVariants.{PatternLength, ToleranceTooLarge, UnknownMethod, ToleranceNotTaken, FieldsTooWide, TextTooLong, TooFewPlaces, TotalTooLarge, Malformed, BufferTooShort, BadRequest, PatternSet, LostHourInPattern, BadEntries, ConflictingEntries}
 use Rattle.answers.specs.declared.Admission.{Admission}
 use Rattle.answers.specs.declared.Admission.TheVariants.{Refused}
 use Rattle.answers.specs.Numbers.{number_of, admission_number, unless_refused}
@@ -27,7 +27,6 @@ number-positive PatternSet = lit< tt
 number-positive LostHourInPattern = lit< tt
 number-positive BadEntries = lit< tt
 number-positive ConflictingEntries = lit< tt
-number-positive RateTooHigh = lit< tt
 
 -- and every number has one or two digits
 pub number_small : (refusal : Refusal) → number_of refusal < 100
@@ -46,7 +45,6 @@ number_small PatternSet = lit< tt
 number_small LostHourInPattern = lit< tt
 number_small BadEntries = lit< tt
 number_small ConflictingEntries = lit< tt
-number_small RateTooHigh = lit< tt
 
 -- what is said on a refusal, and what where nothing is refused
 pub on-refusal : {A : Type 0} (refusal : Refusal) (number : ℕ) (accepted refused : A) → number_of refusal ≡ number → refused ≡ unless_refused number accepted refused

@@ -7,7 +7,6 @@ use Rattle.answers.specs.declared.Answer.{Answer}
 use Rattle.answers.specs.declared.Answer.TheVariants.{Listed, Refused}
 use Rattle.answers.specs.declared.SheetAnswer.{SheetAnswer}
 use Rattle.answers.specs.declared.FirstAnswer.{FirstAnswer}
-use Rattle.answers.specs.declared.ChargeAnswer.{ChargeAnswer}
 use Rattle.answers.specs.declared.Saving.{Saving}
 
 -- ---- of a search of a text or of a chunk
@@ -58,28 +57,6 @@ abbrev pub first_inspections : FirstAnswer → ℕ
 first_inspections (FirstAnswer.Found position inspections) = inspections
 first_inspections (FirstAnswer.Nothing inspections) = inspections
 first_inspections (FirstAnswer.Refused refusal) = 0
-
--- ---- of a whole search with its charge; a refusal marks no hour and charges nothing
-
-abbrev pub charge_number : ChargeAnswer → ℕ
-charge_number (ChargeAnswer.Charged found inspections hours charge) = 0
-charge_number (ChargeAnswer.Refused refusal) = number_of refusal
-
-abbrev pub charge_found : ChargeAnswer → ℕ
-charge_found (ChargeAnswer.Charged found inspections hours charge) = found
-charge_found (ChargeAnswer.Refused refusal) = 0
-
-abbrev pub charge_inspections : ChargeAnswer → ℕ
-charge_inspections (ChargeAnswer.Charged found inspections hours charge) = inspections
-charge_inspections (ChargeAnswer.Refused refusal) = 0
-
-abbrev pub charge_hours : ChargeAnswer → ℕ
-charge_hours (ChargeAnswer.Charged found inspections hours charge) = hours
-charge_hours (ChargeAnswer.Refused refusal) = 0
-
-abbrev pub charge_cents : ChargeAnswer → ℕ
-charge_cents (ChargeAnswer.Charged found inspections hours charge) = charge
-charge_cents (ChargeAnswer.Refused refusal) = 0
 
 -- ---- of a save
 

@@ -1,7 +1,7 @@
 -- The numbers of document 01, "When a call says no", and from 12 on of document 02, for the refusals that the code names.
 use Rattle.std.specs.Prelude.{cond, ℕ, eqb}
 use Rattle.answers.specs.declared.Refusal.{Refusal}
-use Rattle.answers.specs.declared.Refusal.TheVariants.{PatternLength, ToleranceTooLarge, UnknownMethod, ToleranceNotTaken, FieldsTooWide, TextTooLong, TooFewPlaces, TotalTooLarge, Malformed, BufferTooShort, BadRequest, PatternSet, LostHourInPattern, BadEntries, ConflictingEntries, RateTooHigh}
+use Rattle.answers.specs.declared.Refusal.TheVariants.{PatternLength, ToleranceTooLarge, UnknownMethod, ToleranceNotTaken, FieldsTooWide, TextTooLong, TooFewPlaces, TotalTooLarge, Malformed, BufferTooShort, BadRequest, PatternSet, LostHourInPattern, BadEntries, ConflictingEntries}
 use Rattle.answers.specs.declared.Admission.{Admission}
 use Rattle.answers.specs.declared.Admission.TheVariants.{Accepted, Refused}
 
@@ -21,7 +21,6 @@ number_of PatternSet = 12
 number_of LostHourInPattern = 13
 number_of BadEntries = 15
 number_of ConflictingEntries = 16
-number_of RateTooHigh = 17
 
 -- 0 where nothing is refused
 abbrev pub admission_number : Admission → ℕ

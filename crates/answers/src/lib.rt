@@ -24,7 +24,6 @@ pub enum Refusal {
     LostHourInPattern,
     BadEntries,
     ConflictingEntries,
-    RateTooHigh,
 }
 
 // The number that the table gives a refusal.
@@ -47,7 +46,6 @@ pub fn number_of(refusal: Refusal) -> usize
         Refusal::LostHourInPattern => 13,
         Refusal::BadEntries => 15,
         Refusal::ConflictingEntries => 16,
-        Refusal::RateTooHigh => 17,
     }
 }
 
@@ -81,18 +79,6 @@ pub enum SheetAnswer {
 pub enum FirstAnswer {
     Found { position: usize, inspections: usize },
     Nothing { inspections: usize },
-    Refused(Refusal),
-}
-
-// What a whole search with its charge answers (document 02, T-10): the two counts, how many hours are marked, and the charge in cents.
-#[derive(Drop)]
-pub enum ChargeAnswer {
-    Charged {
-        found: usize,
-        inspections: usize,
-        hours: usize,
-        charge: u64,
-    },
     Refused(Refusal),
 }
 
