@@ -51,6 +51,7 @@ module _ (m : ℕ) (T : List ℕ) where
 
 module _ (m : ℕ) (T listed : List ℕ) where
   page-among : (pages i : ℕ) → i < pages → get_or (first_pages m T listed pages) i [] ≡ page m T listed i
+  page-among zero i l = elim l [ ]
   page-among (suc pages) i l =
       ap (λ (all : List (List ℕ)). get_or all i []) (pages-more m T listed pages)
       ∙ ⊎_elim (λ (earlier : i < pages).
