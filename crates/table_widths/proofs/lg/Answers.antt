@@ -5,19 +5,8 @@ use native.Mathlib.Omega.{arith}
 use Rattle.jumbled.specs.Fields.{first, lg}
 use Rattle.table_parikh.specs.Table.{tabulate}
 use Rattle.table_parikh.proofs.Tables.{tabulated}
-use Rattle.table_widths.proofs.Widths.{lg-le}
-use Rattle.table_widths.proofs.lg.Statement.{statement}
-use Rattle.table_widths.proofs.lg.Tie as tie
+use Rattle.table_widths.proofs.lg.Goals as goal
 
-returns : tie.Need-returns
+pub returns : goal.returns
 unfolding first lg tabulate
 returns c = tabulated 65 lg refl c.args.v (omega arith)
-
-cast-result : tie.Need-overflow-cast-result
-cast-result c = omega (arith, returns c, lg-le c.args.v c.requires)
-
-array-read-result : tie.Need-array-read-result
-array-read-result c = omega arith
-
-pub lg-spec : {M : Type 1} → statement M
-lg-spec = tie.close (tie.spec array-read-result cast-result returns)
