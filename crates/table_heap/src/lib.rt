@@ -1,6 +1,7 @@
 // Heap values: a number for each byte, by whose sums windows are compared with a pattern (document 01, "The five methods", 5).
 
 #![tactic(auto)]
+
 ghost use Rattle.std.specs.Prelude.{◌≡◌, ℕ, ◌+◌, ◌*◌, ◌%◌, ◌^◌, ◌<◌};
 ghost use Rattle.table_heap.specs.Powers.{IsPower};
 ghost use Rattle.table_heap.specs.Table.{table_sum, Fillable, HeapTabled};
