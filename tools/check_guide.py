@@ -75,7 +75,7 @@ def items(path):
     found = {}
     for paragraph in path.read_text().split("\n\n"):
         lines = paragraph.strip("\n").split("\n")
-        while lines and lines[0].strip().startswith(("--", "//")):
+        while lines and lines[0].strip().startswith(("--", "//", "#[")):
             lines.pop(0)
         indent = len(lines[0]) - len(lines[0].lstrip()) if lines else 0
         lines = [re.sub(r"^(\s*)(unfoldable |abbrev |pub )+", r"\1", line[indent:]) for line in lines]
@@ -181,8 +181,8 @@ def untold_above(text):
         # without the parts taken of a thing, which may be called as a definition is
         used = words(re.sub(r" \.\S+", "", without_comments(item))) & names
         for name in sorted(used - named_in(above) - {name_of(item)}):
-            # `openNumber` is explained for all of its kind, and that r and s are what calls hand back and are handed, for all types
-            if not name.endswith("Number") and not name[0].isupper():
+            # `open_number` is explained for all of its kind, and that r and s are what calls hand back and are handed, for all types
+            if not name.endswith("_number") and not name[0].isupper():
                 problems.append(f"sections 1 to 7, {name_of(item)}: {name} is not named there")
     return problems
 
