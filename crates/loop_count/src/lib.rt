@@ -1,6 +1,7 @@
 // Method 1 (document 01, "The five methods"): the bytes of a sliding window are counted. How the window slides is said in the crate loop_forward.
 
 #![tactic(auto)]
+
 ghost use Rattle.loop_count.specs.Counting.{CountSearchable, CountSearches};
 
 use lent::Range;
