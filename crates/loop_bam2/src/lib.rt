@@ -1,6 +1,7 @@
 // The search loop of method 3. What it has in common with those of 2 and 4 is said in the crate loop_backward.
 
 #![tactic(auto)]
+
 ghost use Rattle.jumbled.specs.Fields.{bam2_layout};
 ghost use Rattle.jumbled.specs.Steps.{bam2_scan};
 ghost use Rattle.lent.specs.Loops.{Fitting};
