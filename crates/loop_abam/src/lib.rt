@@ -1,6 +1,7 @@
 // The search loop of method 4. What it has in common with those of 2 and 3 is said in the crate loop_backward.
 
 #![tactic(auto)]
+
 ghost use Rattle.jumbled.specs.Fields.{abam_layout};
 ghost use Rattle.lent.specs.Loops.{Fitting};
 ghost use Rattle.loop_backward.specs.Ranges.{ScannableByTops, SearchedTo};
