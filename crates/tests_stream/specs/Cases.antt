@@ -1,6 +1,6 @@
 -- What the functions that read a case leave their callers to rely on.
 use Rattle.std.specs.Prelude.{cond, List, ℕ, ◌+◌, ◌≤◌, ltb, length, take, drop, replicate}
-use Rattle.io.specs.Counts.{IsPrefixLen}
+use Rattle.tests_stream.specs.Fillings.{IsPrefixLen}
 use Rattle.tests_stream.specs.Reading.{number_at}
 use Rattle.tests_stream.specs.declared.cases.Fields.{Fields}
 use Rattle.tests_stream.specs.declared.cases.Shape.{Shape}

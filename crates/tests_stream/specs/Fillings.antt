@@ -1,8 +1,11 @@
 -- What lent places hold before a call, and the texts that a few letters stand for (tools/vectors_stream.py).
-use Rattle.std.specs.Prelude.{Bool, cond, List, ℕ, zero, suc, ◌+◌, ◌*◌, ◌/◌, ◌%◌, ◌^◌, eqb, length, get_or}
-use Rattle.io.specs.Counts.{IsPrefixLen}
+use Rattle.std.specs.Prelude.{◌≡◌, Bool, cond, List, ℕ, zero, suc, ◌+◌, ◌*◌, ◌/◌, ◌%◌, ◌^◌, ◌≤◌, eqb, length, get_or, take}
 use Rattle.table_parikh.specs.Table.{tabulate}
 use Rattle.lent.specs.Written.{Written}
+
+-- A part of the first n places can be lent: they are there, and the part has that length
+abbrev pub IsPrefixLen : ℕ → List ℕ → Type 0
+IsPrefixLen n xs = (n ≤ length xs) × (n ≡ length (take n xs))
 
 -- The first n places hold what f says of each, and every other is as it was. That there are so many is said so that a part of this length can be
 -- lent.
