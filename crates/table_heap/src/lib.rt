@@ -71,7 +71,7 @@ pub fn sum_of(values: &[u64; 256], bytes: &[u8]) -> u64
 }
 
 // What method 5 compares a window's sum with.
-#[derive(Drop)]
+#[derive(Clone, Copy)]
 pub struct Target {
     // The pattern's own sum, which a candidate's equals.
     pub sum: u64,
