@@ -1,16 +1,15 @@
 -- What a charge comes to, and when a rate is refused (document 02, T-10).
-use mathlib.Core.Path.{◌≡◌, refl, sym, ap, ap₂, ◌∙◌}
+use mathlib.Core.Path.{◌≡◌, refl, sym, ap, ◌∙◌}
 use mathlib.Core.Bool.{Bool}
-use mathlib.Core.List.{List, [], ◌∷◌, map}
-use Prim.Native.Nat.{ℕ, suc, ◌+◌, ◌-◌, ◌*◌, ◌≤◌, ◌<◌}
-use native.Mathlib.Nat.{mul-zero, zero-mul, mul-add, le_trans, mul-le-mul}
+use mathlib.Core.List.{List, [], ◌∷◌}
+use Prim.Native.Nat.{ℕ, ◌+◌, ◌*◌, ◌≤◌, ◌<◌}
+use native.Mathlib.Nat.{mul-zero, zero-mul, mul-add, mul-le-mul}
 use native.Mathlib.Omega.{arith}
-use lib.ListN.{length}
 use borrow.Author.Tests.{lt-ltb, le-ltb, ltb-false}
 use Rattle.jumbled.specs.Refusals.{given, total}
 use Rattle.jumbled.proofs.Admission.{Numbered, none, next, given-one}
-use Rattle.charge_form.specs.Runs.{marked, Run, runs}
-use Rattle.charge_form.specs.Charge.{sixes_begun, cost, charge_for, charge, rate_tests}
+use Rattle.charge_form.specs.Runs.{Run, runs}
+use Rattle.charge_form.specs.Charge.{sixes_begun, charge_for, rate_tests}
 use Rattle.charge_form.proofs.Tally.{added, sixes-few}
 
 -- the rate for every six hours begun, in all runs together: but it goes by the sixes of each run

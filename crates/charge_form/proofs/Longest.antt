@@ -1,9 +1,9 @@
 -- The runs are the longest stretches of marked hours, each of them and nothing else; they stand apart, in ascending order, and have exactly the
 -- marked hours (document 02, T-10). Marked are the hours of the matching windows.
 use mathlib.Core.Path.{◌≡◌, refl, sym, ap, subst, ◌∙◌}
-use mathlib.Core.Bool.{Bool, true, false, ◌&&◌, ◌||◌, or-true, true≢false}
+use mathlib.Core.Bool.{Bool, true, false, ◌||◌, or-true, true≢false}
 use mathlib.Core.List.Memᴰ
-use mathlib.Core.List.{List, [], ◌∷◌, map, Memᴰ}
+use mathlib.Core.List.{List, [], ◌∷◌, Memᴰ}
 use mathlib.Core.Logic.{◌↔◌, ⊎_elim}
 use Prim.Native.Nat.{ℕ, zero, suc, ◌+◌, ◌-◌, ◌≤◌, ◌<◌}
 use native.Mathlib.Nat.{le_refl, le_trans}
@@ -14,7 +14,7 @@ use borrow.Author.Tests.{leb-true, ltb-true, le-leb, lt-ltb}
 use Rattle.jumbled.specs.Match.{select, positions}
 use Rattle.jumbled.specs.Refusals.{any_of}
 use Rattle.jumbled.proofs.Sums.{below_or_not}
-use Rattle.jumbled.proofs.Positions.{Picked, picked, selected, listed}
+use Rattle.jumbled.proofs.Positions.{picked, selected, listed}
 use Rattle.charge_form.specs.Runs.{in_window, marked_by, marked, stretch, begins, Run, run_from, runs}
 use Rattle.charge_form.specs.Longest.{HeldBy, Longest, Apart, none, next, HasHour}
 use Rattle.charge_form.proofs.Stretches.{both, stretch-on, stretch-off, stretch-few, stretch-marked, stretch-ends, stretch-has, stretch-is, begins-marked, begins-after, begins-at, marked-before, begins-by, runs-from, run-begins, none-begins}

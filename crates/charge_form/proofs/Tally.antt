@@ -1,15 +1,15 @@
 -- A sum over all runs, hour by hour: a run that is not over grows with a marked hour, and is over with one that is not marked. What each run adds to the
 -- sum is any function of its hours: the hours themselves, or how often six of them are begun.
 use mathlib.Core.Path.{◌≡◌, refl, sym, ap, ap₂, ◌∙◌}
-use mathlib.Core.Bool.{Bool, true, false, cond, not, ◌&&◌, and-true, true≢false}
-use mathlib.Core.List.{List, [], ◌∷◌, map}
+use mathlib.Core.Bool.{Bool, true, false, cond, true≢false}
+use mathlib.Core.List.{List, ◌∷◌, map}
 use Prim.Native.Nat.{ℕ, zero, suc, ◌+◌, ◌-◌, ◌*◌, ◌≤◌, ◌<◌}
-use native.Mathlib.Nat.{zero-add, suc-add, add-suc}
+use native.Mathlib.Nat.{zero-add}
 use native.Mathlib.Omega.{arith}
 use lib.ListN.{length}
 use Rattle.jumbled.specs.Match.{select}
 use Rattle.jumbled.specs.Refusals.{total}
-use Rattle.charge_form.specs.Runs.{stretch, begins, Run, run_from, runs}
+use Rattle.charge_form.specs.Runs.{stretch, Run, runs}
 use Rattle.charge_form.specs.Charge.{sixes_begun}
 use Rattle.charge_form.proofs.Stretches.{stretch-on, stretch-off, marked-before, begins-by, runs-from, run-begins, none-begins}
 

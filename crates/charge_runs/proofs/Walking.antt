@@ -1,17 +1,17 @@
 -- A walk over the positions of windows: what is known of their hours after some of the windows, when a run is over, and when a window makes it longer.
-use mathlib.Core.Path.{◌≡◌, refl, sym, ap, ap₂, ◌∙◌}
-use mathlib.Core.Bool.{Bool, true, false, ◌&&◌, and-false}
+use mathlib.Core.Path.{◌≡◌, refl, sym, ap, ◌∙◌}
+use mathlib.Core.Bool.{true, false, and-false}
 use mathlib.Core.List.{List}
 use mathlib.Core.Logic.{⊎_elim}
-use Prim.Native.Nat.{ℕ, suc, ◌+◌, ◌-◌, ◌≤◌, ◌<◌}
+use Prim.Native.Nat.{ℕ, ◌+◌, ◌-◌, ◌≤◌, ◌<◌}
 use native.Mathlib.Nat.{zero-add}
 use native.Mathlib.Omega.{arith}
-use lib.Dec.{leb, ltb}
+use lib.Dec.{leb}
 use lib.ListN.{length, get_or}
 use borrow.Author.Tests.{le-leb, lt-leb, lt-ltb, le-ltb}
 use Rattle.jumbled.proofs.Sums.{below_or_not}
 use Rattle.jumbled.proofs.Selections.{any_at, any_none}
-use Rattle.charge_form.specs.Runs.{in_window, marked_by, marked_hours, runs}
+use Rattle.charge_form.specs.Runs.{in_window, marked_by, runs}
 use Rattle.charge_form.specs.Charge.{sixes_begun}
 use Rattle.charge_form.proofs.Tally.{tally, added, tally-at, over-marked, over-unmarked, over_last, runs-tally, hours-add-up}
 use Rattle.charge_runs.specs.Covering.{Coverable, Within, Covers}
