@@ -8,7 +8,6 @@ ghost use Rattle.image_form.specs.Image.{low_first};
 ghost use Rattle.tests_outcomes.specs.Digests.{Digested, digest_step, list_bytes, field_bytes};
 ghost use Rattle.tests_outcomes.specs.Outcomes.{outcome_after, same_outcome};
 
-use libc::STDOUT_FILENO;
 use tests_stream::read_number;
 
 const MODULUS: u64 = 72057594037927931;
@@ -147,34 +146,34 @@ pub fn agree(got: Outcome, expected: Outcome) -> bool
     got.digest == expected.digest
 }
 
-// ---- lines
+// ---- lines, on standard output. A write that fails is not reported, and what follows is tried all the same.
 
 // Prints a byte of a line: `#` stands for the next of the numbers. Says how many of them are printed then.
-fn print_byte(line: &[u8], i: usize, numbers: &[u64], next: usize) -> usize
+fn print_byte<R: Print>(rt: &R, line: &[u8], i: usize, numbers: &[u64], next: usize) -> usize
     requires { (i < length line.now) × (next ≤ i) }
     ensures { result ≤ next + 1 }
 {
     if line[i] != b'#' {
-        io::write_all(STDOUT_FILENO, &line[i..i + 1]);
+        drop(rt.write_all(&line[i..i + 1]));
         return next;
     }
     if next < numbers.len() {
-        io::print_decimal(STDOUT_FILENO, numbers[next]);
+        drop(rt.print(numbers[next]));
     }
     next + 1
 }
 
-fn print_line(line: &[u8], numbers: &[u64]) {
+fn print_line<R: Print>(rt: &R, line: &[u8], numbers: &[u64]) {
     let mut next: usize = 0;
     let mut i: usize = 0;
     while i < line.len() {
-        next = print_byte(line, i, numbers, next);
+        next = print_byte(rt, line, i, numbers, next);
         i += 1;
     }
 }
 
 // The line of a case that came to something else than is stored.
-pub fn print_difference(case: usize, op: u8, got: Outcome, expected: Outcome) {
+pub fn print_difference<R: Print>(rt: &R, case: usize, op: u8, got: Outcome, expected: Outcome) {
     let numbers = [
         case as u64,
         op as u64,
@@ -187,18 +186,22 @@ pub fn print_difference(case: usize, op: u8, got: Outcome, expected: Outcome) {
         expected.b,
         expected.digest,
     ];
-    print_line(b"case # op #: got # # # #, expected # # # #\n", &numbers);
+    print_line(
+        rt,
+        b"case # op #: got # # # #, expected # # # #\n",
+        &numbers,
+    );
 }
 
-pub fn print_malformed(at: usize) {
+pub fn print_malformed<R: Print>(rt: &R, at: usize) {
     let numbers = [at as u64];
-    print_line(b"malformed at byte #\n", &numbers);
+    print_line(rt, b"malformed at byte #\n", &numbers);
 }
 
-pub fn print_tally(cases: usize, differ: usize)
+pub fn print_tally<R: Print>(rt: &R, cases: usize, differ: usize)
     requires { differ ≤ cases }
 {
     let agreed = cases - differ;
     let numbers = [cases as u64, agreed as u64, differ as u64];
-    print_line(b"# cases, # agreed, # differ\n", &numbers);
+    print_line(rt, b"# cases, # agreed, # differ\n", &numbers);
 }
