@@ -1,6 +1,7 @@
 // The search loop of method 6 (document 02, T-04). What it has in common with those of 2, 3 and 4 is said in the crate loop_backward.
 
 #![tactic(auto)]
+
 ghost use Rattle.lent.specs.Loops.{Fitting};
 ghost use Rattle.loop_ebl.specs.Reading.{EblTabled, EblSearched};
 
