@@ -1,6 +1,7 @@
 // The forward methods, 1 and 5, over a tail followed by a chunk: first the windows of the seam, then those of the chunk with the state that the seam left.
 
 #![tactic(auto)]
+
 ghost use Rattle.chunk_forward.specs.Starting.{ForwardReady};
 ghost use Rattle.chunk_forward.specs.Counting.{CountableSeam, CountsSeam, CountFound};
 ghost use Rattle.chunk_forward.specs.Hashing.{HashableSeam, HashesSeam, HcamFound};

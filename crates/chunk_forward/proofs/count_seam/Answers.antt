@@ -1,7 +1,6 @@
 -- `chunk_forward::count_seam` meets its contract.
 use mathlib.Core.List.{List}
 use Prim.Native.Nat.{ℕ}
-use borrow.Author.Rules.{rules}
 use Rattle.jumbled.specs.Steps.{count_judged}
 use Rattle.lent.specs.declared.Range.{Range}
 use Rattle.loop_forward.proofs.Progress.{every-listed, at-end}
@@ -11,8 +10,7 @@ use Rattle.loop_count.specs.Counting.{CountSearchable}
 use Rattle.chunk_forward.specs.Counting.{CountableSeam}
 use Rattle.chunk_forward.proofs.Forwards.{count-few}
 use Rattle.chunk_forward.proofs.Seams.{primed-listed, inspections-fit}
-use Rattle.chunk_forward.proofs.count_seam.Statement.{statement}
-use Rattle.chunk_forward.proofs.count_seam.Tie as tie
+use Rattle.chunk_forward.proofs.count_seam.Goals as goal
 
 -- what the start and the windows are given
 module _ {m : ℕ} {allowed T : List ℕ} {range : Range} {list : List ℕ} (given : CountableSeam m allowed T range list) where
@@ -35,44 +33,27 @@ module _ {m : ℕ} {allowed T : List ℕ} {range : Range} {list : List ℕ} (giv
         state = rw given.startable.from_first started.state;
       }
 
-count-start-requires : tie.Need-count-start-requires
-count-start-requires c κs = for-start c.before.before.requires
+pub count_windows-windows-requires : goal.count_windows-windows-requires
+count_windows-windows-requires c = for-windows c.requires (c.count_start-start.ensures (for-start c.requires))
 
-count-windows-requires : tie.Need-count-windows-requires
-count-windows-requires c κs =
-    let given = c.before.before.before.before.requires in
-    for-windows given (c.before.count-start.ensures (for-start given))
-
-add-windows : tie.Need-overflow-add-windows
-add-windows c =
-    let windows = c.before.before.before.before in
-    let start = windows.before.before in
-    let given = start.before.before.before.requires in
-    let started = start.count-start.ensures (for-start given) in
-    let searched = windows.count-windows.ensures (for-windows given started) in
+pub overflow_add-windows : goal.overflow_add-windows
+overflow_add-windows c =
+    let given = c.requires in
+    let started = c.count_start-start.ensures (for-start given) in
+    let searched = c.count_windows-windows.ensures (for-windows given started) in
     record {
       fits =
-          inspections-fit given.startable (count_judged given.of start.before.before.before.args.k)
-          (count-few given.of start.before.before.before.args.k) started.inspected
+          inspections-fit given.startable (count_judged given.of c.args.k) (count-few given.of c.args.k) started.inspected
           (every-listed searched.searched given.startable.places);
     }
 
-same_length : tie.Need-same-length
-same_length c = search rules
-
-returns : tie.Need-returns
+pub returns : goal.returns
 returns c given =
-    let windows = c.before.before.before.before in
-    let start = windows.before.before in
-    let started = start.count-start.ensures (for-start given) in
-    let searched = windows.count-windows.ensures (for-windows given started) in
+    let started = c.count_start-start.ensures (for-start given) in
+    let searched = c.count_windows-windows.ensures (for-windows given started) in
     record {
       listed =
-          primed-listed given.startable (count_judged given.of start.before.before.before.args.k) started.inspected
+          primed-listed given.startable (count_judged given.of c.args.k) started.inspected
           (every-listed searched.searched given.startable.places);
       state = rw (at-end searched.searched given.startable.places given.startable.fitting.ordered) at searched.state;
     }
-
-pub count-seam-spec : {M : Type 1} → statement M
-count-seam-spec =
-    tie.close (tie.spec count-start-requires count-windows-requires add-windows same_length returns)
