@@ -2,6 +2,7 @@
 // loop_forward.
 
 #![tactic(auto)]
+
 ghost use Rattle.std.specs.Prelude.{◌≡◌, ◌≤◌, ◌||◌, length, nat_lt};
 ghost use Rattle.loop_hcam.specs.Hashing.{Finds, HcamSearchable, HcamSearches};
 
