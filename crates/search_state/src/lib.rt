@@ -59,8 +59,7 @@ pub fn admit_parts(pattern: &[u8], k: u8, method: u8, total: u32, tail: usize) -
     ensures { Admits pattern.now (given (search_tests pattern.now k method total tail)) result }
 {
     let admitted = admit_pattern::admit(pattern, k, method);
-    let admission = admitted.admission;
-    if let Admission::Refused(_) = admission {
+    if let Admission::Refused(_) = &admitted.admission {
         return admitted;
     }
     if tail != tail_length(pattern.len(), total as usize) {
