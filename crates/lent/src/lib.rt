@@ -7,7 +7,7 @@ ghost use Rattle.std.specs.Prelude.{◌≡◌, ◌+◌, ◌≤◌, min, length, 
 ghost use Rattle.lent.specs.Written.{Written};
 
 // The window starts of a slice that a loop searches, and where their positions go.
-#[derive(Drop)]
+#[derive(Clone, Copy)]
 pub struct Range {
     // The first window start,
     pub first: usize,

@@ -8,7 +8,7 @@ ghost use Rattle.table_packed.specs.Word.{FieldPlaced, Packing, SharedField, Pac
 use table_parikh::{LOST_HOUR, Span};
 
 // A field of the packed word, each number at the field's place: its start value, what an inspection adds, its top bit.
-#[derive(Drop)]
+#[derive(Clone, Copy)]
 pub struct Field {
     pub start: u64,
     pub unit: u64,
@@ -41,7 +41,7 @@ pub fn shared_field(counts: &[u8; 256], span: Span, k: usize, method: u8) -> Fie
 }
 
 // The word before the first inspection, and the top bits of all fields.
-#[derive(Drop)]
+#[derive(Clone, Copy)]
 pub struct Word {
     pub start: u64,
     pub tops: u64,

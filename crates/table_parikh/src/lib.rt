@@ -46,7 +46,7 @@ pub fn allowances(counts: &[u8; 256]) -> [u8; 256]
 }
 
 // The bytes from `low` up to the one before `past`.
-#[derive(Drop)]
+#[derive(Clone, Copy)]
 pub struct Span {
     pub low: usize,
     pub past: usize,
