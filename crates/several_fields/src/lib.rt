@@ -10,7 +10,7 @@ ghost use Rattle.several_fields.specs.Words.{FieldsFor, Placeable, units_added, 
 use table_parikh::LOST_HOUR;
 
 // What all words of a search have in common.
-#[derive(Drop)]
+#[derive(Clone, Copy)]
 pub struct Fields {
     // 1 in every field,
     pub ones: u64,
