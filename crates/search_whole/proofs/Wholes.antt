@@ -17,7 +17,6 @@ use Rattle.lent.specs.Found.{Found}
 use Rattle.lent.specs.declared.SearchCounts.{SearchCounts}
 use Rattle.answers.specs.declared.Answer.TheVariants.{Listed, Refused}
 use Rattle.answers.specs.declared.Admission.{Admission}
-use Rattle.answers.specs.declared.Admission.TheVariants as Admission
 use Rattle.answers.proofs.Refused.{number-positive, on-refusal, on-accepted}
 use Rattle.admit_pattern.proofs.Refusing.{refused-first}
 use Rattle.search_whole.specs.Whole.{whole_number, Searched, Whole}

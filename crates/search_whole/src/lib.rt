@@ -19,8 +19,7 @@ pub fn admit(pattern: &[u8], k: u8, method: u8, bytes: usize, places: usize) -> 
     ensures { Admits pattern.now (given (whole_tests pattern.now k method bytes places)) result }
 {
     let admitted = admit_pattern::admit(pattern, k, method);
-    let admission = admitted.admission;
-    if let Admission::Refused(refusal) = admission {
+    if let Admission::Refused(refusal) = admitted.admission {
         return refused_pattern(refusal);
     }
     let limits = admit_chunk::limits(LONGEST_TEXT, 0, bytes, places);
