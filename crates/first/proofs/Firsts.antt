@@ -1,21 +1,19 @@
 -- What one place and the text from a on come to: the answer of the search for the first match.
 use mathlib.Core.Path.{◌≡◌, refl, sym, ap, ◌∙◌}
-use mathlib.Core.Bool.{Bool}
 use mathlib.Core.List.{List, [], ◌∷◌, ◌++◌, map, Option-to_list}
 use mathlib.Core.Option.{Option, none, some}
 use mathlib.Core.Logic.{⊎_elim}
-use Prim.Native.Nat.{ℕ, ◌+◌, ◌-◌, ◌^◌, ◌≤◌, ◌<◌, min}
+use Prim.Native.Nat.{ℕ, ◌+◌, ◌-◌, ◌≤◌, ◌<◌, min}
 use native.Mathlib.Omega.{arith}
 use lib.ListN.{length, get_or, take, drop, length-map, length-drop}
 use lib.Seq.{take_all}
-use Rattle.jumbled.specs.Match.{Bytes, starts, first_match}
+use Rattle.jumbled.specs.Match.{Bytes, first_match}
 use Rattle.jumbled.specs.Scan.{Result}
 use Rattle.jumbled.specs.Steps.{steps_from, steps_into}
 use Rattle.jumbled.specs.Refusals.{given, pattern_tests}
 use Rattle.jumbled.proofs.Sums.{below_or_not}
 use Rattle.jumbled.proofs.Cuts.{moved}
-use Rattle.jumbled.proofs.Drivers.{matches_at}
-use Rattle.jumbled.proofs.First.{Earliest, nowhere, found, is-earliest, first-listed, first_short, steps-from}
+use Rattle.jumbled.proofs.First.{first-listed, first_short, steps-from}
 use Rattle.lent.specs.Found.{Found}
 use Rattle.lent.specs.Placed.{placed, shifted}
 use Rattle.lent.specs.declared.SearchCounts.{SearchCounts}
@@ -36,11 +34,6 @@ in_place : (o : Option ℕ) → (length (Option-to_list o) ≡ 0 → ⊥) → so
 unfolding Option-to_list placed
 in_place none e = absurd (e refl)
 in_place (some p) e = refl
-
-small-place : {test : ℕ → Bool} {s last : ℕ} {o : Option ℕ} → Earliest test s (last - s) o → get_or (placed (0 ∷ []) 0 (Option-to_list o)) 0 0 ≤ last
-unfolding Option-to_list placed
-small-place (nowhere rest) = omega arith
-small-place (found p least below passes rest) = omega arith
 
 -- ---- the call
 
@@ -121,10 +114,3 @@ module _ (P : List ℕ) (k method : ℕ) (T : List ℕ) (a : ℕ) where
           inspections = holds.inspected ∙ on-accepted (at_or_after_number P k method T) (steps_from P k method T a).inspections 0 accepted;
           by-steps = λ q. holds.by-steps;
         }
-
-    -- it is no further than the text's end, or it is the 0 that stood there
-    pub position-fits : length T ≤ 65536 → get_or after 0 0 < 2 ^ 32
-    unfolding first_match
-    position-fits short =
-        let there = small-place (is-earliest (matches_at P k T) a (starts (length P) T - a)) in
-        omega (arith, there, ap (λ (l : List ℕ). get_or l 0 0) holds.place)
