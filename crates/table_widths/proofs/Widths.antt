@@ -9,13 +9,13 @@ use Prim.Native.Nat.{ℕ, zero, suc, ◌+◌, ◌*◌, ◌≤◌, ◌<◌, max}
 use native.Mathlib.Nat.{max-le}
 use native.Mathlib.Omega.{arith}
 use borrow.Author.Tests.{ne_eqb}
-use Rattle.jumbled.specs.Fields.{lg, letter_width, Layout, bam_layout, bam2_layout, abam_layout, no_layout, layout_of, width_of, bits}
+use Rattle.jumbled.specs.Fields.{first, lg, letter_width, Layout, bam_layout, bam2_layout, abam_layout, no_layout, layout_of, width_of, bits}
 use Rattle.jumbled.specs.Match.{cc, sum}
 use Rattle.jumbled.proofs.Sums.{below_or_not, sum-suc, sum_zeros}
 use Rattle.jumbled.proofs.Counts.{cc-length}
 use Rattle.table_parikh.specs.Table.{parikh}
 use Rattle.table_parikh.proofs.Tables.{tabulated}
-use Rattle.jumbled.proofs.Lg.{lg-least, bam-letters}
+use Rattle.jumbled.proofs.Lg.{lg-least, letter-lg, bam-letters}
 use Rattle.jumbled.proofs.Overflow.{Roomy, bam-roomy, bam2-roomy, abam-roomy, width-shared}
 
 -- ---- lg
@@ -26,6 +26,14 @@ lg-le v h = lg-least v 6 (omega arith)
 -- a letter's width is at most 8 bits
 pub letter-le : (v : ℕ) → v ≤ 64 → letter_width v ≤ 8
 letter-le v h = bam-letters.least v 8 (lit≤ tt) (omega arith)
+
+-- the largest has 8
+pub letter-largest : letter_width 64 ≡ 8
+unfolding letter_width first
+letter-largest = refl
+
+-- by which the width of a letter is computed
+pub ruleset letter_steps = (lg-le, letter-lg, letter-largest)
 
 -- ---- the layouts by the method's number
 

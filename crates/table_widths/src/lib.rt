@@ -89,6 +89,7 @@ pub fn lg(v: usize) -> usize
 
 // The width of the field of a byte that the pattern has count times, in methods 2 and 3: document 02, T-03. `lg` is promised up to 64
 // only, so it is not asked for 65.
+#[tactic(auto, using(crate::proofs::Widths::letter_steps))]
 fn letter_width(count: usize) -> usize
     requires { count ≤ 64 }
     ensures { result ≡ letter_width count }

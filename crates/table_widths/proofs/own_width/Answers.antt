@@ -7,7 +7,7 @@ use Rattle.table_widths.proofs.Widths.{lg-le, layout-4, layout-none, own-2-3}
 use Rattle.table_widths.proofs.own_width.Goals as goal
 
 pub overflow_add-result : goal.overflow_add-result
-overflow_add-result c = omega (arith, lg-le c.larger.result (omega arith))
+overflow_add-result c = omega (arith, lg-le)
 
 pub returns-in-4 : goal.returns-in-4
 returns-in-4 c =

@@ -7,7 +7,7 @@ use Rattle.table_widths.proofs.Widths.{lg-le, layout-2, layout-3, layout-4, layo
 use Rattle.table_widths.proofs.shared_width.Goals as goal
 
 pub overflow_add-result : goal.overflow_add-result
-overflow_add-result c = omega (arith, lg-le c.args.k (omega arith))
+overflow_add-result c = omega (arith, lg-le)
 
 pub returns-in-2 : goal.returns-in-2
 returns-in-2 c = sym (ap (λ (L : Layout). L.common) (layout-2 c.args.k c.args.method c.in-2.is))
