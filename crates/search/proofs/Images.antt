@@ -16,7 +16,6 @@ use Rattle.answers.proofs.Refused.{on-refusal, still-refused, tested-later}
 use Rattle.search.specs.declared.Search.{Search}
 use Rattle.search.specs.declared.SearchResult.{SearchResult}
 use Rattle.answers.specs.declared.Saving.{Saving}
-use Rattle.answers.specs.declared.Saving.TheVariants as Saving
 use Rattle.image_write.specs.Saved.{buffer_number, Saved}
 use Rattle.search.specs.Searches.{parts_of_search, stored, blank_search}
 use Rattle.search.specs.Calls.{handed_tests, handed_number, image_of, save_number, Saves, ResultWith, load_number, Loads}

@@ -15,7 +15,7 @@ pub use answers::{Admission, Answer, Refusal, Saving, number_of};
 pub use search_whole::whole;
 
 // A search that goes on from chunk to chunk. Bytes past the lengths are no part of it.
-#[derive(Drop)]
+#[derive(Clone, Copy)]
 pub struct Search {
     pub pattern: [u8; 64],
     pub pattern_len: usize,
