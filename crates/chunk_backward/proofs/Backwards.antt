@@ -6,14 +6,14 @@ use native.Mathlib.Omega.{arith}
 use lib.ListN.{length, take}
 use Rattle.jumbled.specs.Scan.{Result, Scanned, backward, standing, scans, driven_into, through}
 use Rattle.jumbled.proofs.Cuts.{◌then◌, moved, backward-within, backward-count, backward-most, through-between}
-use Rattle.lent.specs.Loops.{Fitting, Listed}
+use Rattle.lent.specs.Loops.{Listed}
 use Rattle.loop_backward.specs.declared.Reached.{Reached}
 use Rattle.loop_backward.specs.Ranges.{RangeScanned}
 use Rattle.loop_backward.proofs.Windows.{SearchedAll, searched-all}
 use Rattle.chunk_seam.specs.declared.Split.{Split}
 use Rattle.chunk_seam.specs.Joined.{Prepared, joined}
 use Rattle.chunk_seam.proofs.Joins.{from_zero}
-use Rattle.chunk_seam.proofs.Prepared.{all-starts, inside, full, tail-fitting, tail-room, tail-places, some-place, chunk-fitting, places-left, found-two, inspections-fit}
+use Rattle.chunk_seam.proofs.Prepared.{all-starts, inside, full, tail-fitting, tail-room, tail-places, some-place, places-left, found-two, inspections-fit}
 use Rattle.chunk_seam.proofs.Full.{into-joined}
 use Rattle.chunk_backward.specs.Scans.{rest_of, FoundBy}
 use Rattle.chunk_backward.proofs.Joins.{backward-joined, backward-rest}
@@ -75,11 +75,6 @@ module _ {m : ℕ} {seam chunk : List ℕ} {split : Split} {list : List ℕ} (re
       stands =
           let same = from_zero (λ (s left : ℕ). standing scanned m seam s left 0) {count = split.over_tail.end} ready.parted.tail-starts.from_first in
           omega (arith, over-tail.stands)
-
-  -- the rest fits
-  pub rest-fitting : Fitting chunk m (rest_of split r)
-  unfolding one first
-  rest-fitting = chunk-fitting ready one few over-tail.listed first ordered
 
   module _ {after : List ℕ} {r' : Reached} (searched' : RangeScanned scanned m chunk (rest_of split r) middle after r') where
     over-chunk : Listed (backward scanned m chunk first gone 0) (rest_of split r) middle after r'.at r'.inspections
