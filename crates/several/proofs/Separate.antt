@@ -8,7 +8,7 @@ use Prim.Native.Nat.{ℕ, suc, ◌+◌, ◌-◌, ◌≤◌, ◌<◌}
 use native.Mathlib.Omega.{arith}
 use lib.ListN.{length, get_or, take, get_or-map}
 use lib.Seq.{get_or-take}
-use Rattle.jumbled.specs.Match.{occurs, lost_hour, excess, window, positions}
+use Rattle.jumbled.specs.Match.{occurs, lost_hour, excess, window}
 use Rattle.jumbled.proofs.Counts.{occurs-none, lacked}
 use Rattle.jumbled.specs.Scan.{Result}
 use Rattle.jumbled.proofs.Sums.{below_or_not, sum-ext}
