@@ -1,6 +1,7 @@
 // What the program mixlist prints for its input, as a function on slices (document 01, "The program").
 
 #![tactic(auto)]
+
 ghost use Rattle.std.specs.Prelude.{◌≤◌, length};
 ghost use Rattle.lent.specs.Written.{Written};
 ghost use Rattle.program_report.specs.Output.{answer_text, output};
