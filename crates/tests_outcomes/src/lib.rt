@@ -85,7 +85,7 @@ pub fn digest_fields(
 }
 
 // What a call came to: document 01's number, 0 where it was accepted, two numbers that the call gives, and the digest of what it left.
-#[derive(Drop)]
+#[derive(Clone, Copy)]
 pub struct Outcome {
     pub number: u64,
     pub a: u64,

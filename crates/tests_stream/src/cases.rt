@@ -18,7 +18,7 @@ struct Shape(usize, usize, usize, usize, usize, u64);
 
 // A case's kind and arguments. Its pattern and its text were put into the first bytes of lent buffers; `places` is the length of the list or the
 // buffer that its call is lent.
-#[derive(Drop)]
+#[derive(Clone, Copy)]
 pub struct Case {
     pub op: u8,
     pub pattern: usize,
