@@ -29,6 +29,7 @@ pub record Meant (bytes : List ℕ) (kept : List Copy) (which : ℕ) : Type 0 wh
   pub written_as : image (ledger_parts ledger) ≡ bytes
 
 pub copy-meant : {bytes : List ℕ} {kept : List Copy} {which : ℕ} → CopiesInvariant kept → KeptAs bytes kept which → Meant bytes kept which
+copy-meant {bytes = bytes} {which = which} none x3 = elim x3 [ ]
 copy-meant (more {copy = copy} sound e copies) (latest q) =
     record { ledger = copy.ledger; back = refl; sound = sound; written_as = sym e ∙ q }
 copy-meant (more sound e copies) (older found) =
