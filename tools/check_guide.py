@@ -31,7 +31,7 @@ WORD = re.compile(r"\w+(?:-\w+)*")
 # what looks like a name of the repository; a record of examples may have lost hours, but no letters beyond these
 NAME = re.compile(r"(?![abcxyzXY-]+$)(?:[a-z]+[A-Z]\w*|[A-Z][a-z]\w+|\w+(?:[-_]\w+)+)")
 # words of the line that a check of proofs prints (section 7)
-PRINTED = {"not-proved", "logic-built", "libraries-built"}
+PRINTED = {"not-proved", "logic-built", "libraries-built", "rattle_errno"}
 
 
 def without_comments(text):
