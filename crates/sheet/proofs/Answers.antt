@@ -16,7 +16,6 @@ use Rattle.lent.specs.declared.SearchCounts.{SearchCounts}
 use Rattle.answers.specs.Numbers.{number_of, admission_number}
 use Rattle.answers.specs.declared.Refusal.{Refusal}
 use Rattle.answers.specs.declared.Admission.{Admission}
-use Rattle.answers.specs.declared.Admission.TheVariants as Admission
 use Rattle.answers.specs.declared.SheetAnswer.TheVariants as SheetAnswer
 use Rattle.answers.proofs.Refused.{IsRefused, number-positive, on-refusal, on-accepted}
 use Rattle.admit_pattern.proofs.Refusing.{refused-first}
