@@ -85,27 +85,23 @@ pub record Alike (s s' : Search) : Type 0 where
   pub total : s.total ≡ s'.total
   pub tail : tail_of s ≡ tail_of s'
 
-module _ {s s' : Search} where
-  parts-alike : Alike s s' → parts_of_search s ≡ parts_of_search s'
-  parts-alike alike = rw (alike.pattern, alike.k, alike.method, alike.total, alike.tail) refl
-
-  alike-parts : parts_of_search s ≡ parts_of_search s' → Alike s s'
-  alike-parts e =
-      record {
-        pattern = ap (λ p. p.pattern) e;
-        k = ap (λ p. p.k) e;
-        method = ap (λ p. p.method) e;
-        total = ap (λ p. p.total) e;
-        tail = ap (λ p. p.tail) e;
-      }
-
 -- Two accepted saves write equal images exactly when the searches are alike, whatever their arrays hold past the lengths.
 pub equal-images : {s s' : Search} {before after before' after' : List ℕ} {r r' : SaveResult} → FieldSizes s → FieldSizes s'
     → Saves s before after r → Saves s' before' after' r' → saving_number r.saving ≡ 0 → saving_number r'.saving ≡ 0
     → (written_image after r ≡ written_image after' r' → Alike s s') × (Alike s s' → written_image after r ≡ written_image after' r')
 equal-images {s} {s'} {before} {before' = before'} fields fields' contract contract' ok ok' =
     let sized-s = saved-sized s fields before (sym contract.number ∙ ok) in
-    let sized-s' = saved-sized s' fields' before' (sym contract'.number ∙ ok') in (
+    let sized-s' = saved-sized s' fields' before' (sym contract'.number ∙ ok') in
+    let parts-alike : Alike s s' → parts_of_search s ≡ parts_of_search s' =
+    λ alike. rw (alike.pattern, alike.k, alike.method, alike.total, alike.tail) refl in
+    let alike-parts : parts_of_search s ≡ parts_of_search s' → Alike s s' =
+    λ e. record {
+      pattern = ap (λ p. p.pattern) e;
+      k = ap (λ p. p.k) e;
+      method = ap (λ p. p.method) e;
+      total = ap (λ p. p.total) e;
+      tail = ap (λ p. p.tail) e;
+    } in (
       λ same. alike-parts (image_injective sized-s sized-s' (sym (save-written contract ok) ∙ same ∙ save-written contract' ok')),
       λ alike. save-written contract ok ∙ ap image (parts-alike alike) ∙ sym (save-written contract' ok'),
     )
