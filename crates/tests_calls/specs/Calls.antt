@@ -2,7 +2,7 @@
 -- record: `Whole` of search_whole, `WholeSeveral` of several, `WholeSheet` of sheet, `AtOrAfter` of first, `Assembles` of resent, and `Opened`,
 -- `Feeds`, `SetsMethod`, `Saves` and `Loads` of search.
 use Rattle.std.specs.Prelude.{◌≡◌, cond, List, [], ◌++◌, ℕ, min, eqb, ltb, length}
-use Rattle.std.proofs.Math.Option.{Option·elim, get_or}
+use Rattle.std.proofs.Math.Option.{Option-elim, get_or}
 use Rattle.jumbled.specs.Match.{bit}
 use Rattle.jumbled.specs.Fields.{layout_of, bits}
 use Rattle.jumbled.specs.Heap.{exact}
@@ -64,7 +64,7 @@ sheet_outcome U answer =
 -- a search for the first match: 1 where there is one, else 0, and the digest of its position, which counts as 0 where there is none
 abbrev pub first_outcome : FirstAnswer → Outcome
 first_outcome answer =
-    outcome_of (first_number answer) (Option·elim (first_position answer) 0 (λ position. 1)) (first_inspections answer)
+    outcome_of (first_number answer) (Option-elim (first_position answer) 0 (λ position. 1)) (first_inspections answer)
     (digest 0 (low_first 8 (get_or (first_position answer) 0)))
 
 -- readings that were sent again: the number, and the digest of the text that was made of them

@@ -1,6 +1,7 @@
 // The call that each stored case asks for, and what it came to (tools/vectors_stream.py). specs/ says which call that is.
 
 #![tactic(auto)]
+
 ghost use Rattle.std.specs.Prelude.{◌≡◌, List, ◌++◌, ℕ, ◌<◌, length, replicate};
 ghost use Rattle.search.specs.Calls.{Feeds, Saves};
 ghost use Rattle.search_whole.specs.Whole.{Whole};
