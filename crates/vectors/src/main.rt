@@ -2,11 +2,12 @@
 // stream is laid out, and tools/make_vectors.py makes it.
 
 #![tactic(auto)]
+
 ghost use Rattle.std.specs.Prelude.{◌≡◌, ◌+◌, ◌^◌, ◌≤◌, ◌<◌, length, replicate};
 ghost use Rattle.vectors.specs.Runs.{CaseRun, tallied, TallyOf};
 
-use libc::STDIN_FILENO;
 use search::Search;
+use std::io::Read;
 use tests_calls::make_call;
 use tests_outcomes::{
     Outcome, agree, print_difference, print_malformed, print_tally, read_outcome,
@@ -61,7 +62,7 @@ fn run_case(stream: &[u8], at: usize, search: Search) -> Step
 }
 
 // Compares a case's outcome with the one stored. A search that is filled in by hand is no case.
-fn compare(tally: Tally, op: u8, got: Outcome, expected: Outcome) -> Tally
+fn compare<R: Print>(rt: &R, tally: Tally, op: u8, got: Outcome, expected: Outcome) -> Tally
     requires { (tally.differ ≤ tally.cases) × (tally.cases < 2 ^ 63) }
     ensures differ_le_cases { (result.differ ≤ result.cases) × (result.cases ≤ tally.cases + 1) }
     ensures value { result ≡ tallied tally op got expected }
@@ -76,7 +77,7 @@ fn compare(tally: Tally, op: u8, got: Outcome, expected: Outcome) -> Tally
             differ: tally.differ,
         };
     }
-    print_difference(cases, op, got, expected);
+    print_difference(rt, cases, op, got, expected);
     Tally {
         cases,
         differ: tally.differ + 1,
@@ -84,7 +85,7 @@ fn compare(tally: Tally, op: u8, got: Outcome, expected: Outcome) -> Tally
 }
 
 // Runs the cases one after the other. Each takes a byte at least, so there are no more cases than bytes.
-fn run(stream: &[u8]) -> Tally
+fn run<R: Print>(rt: &R, stream: &[u8]) -> Tally
     ensures differ_le_cases { result.differ ≤ result.cases }
     ensures tally_of { TallyOf stream.now result }
 {
@@ -100,13 +101,13 @@ fn run(stream: &[u8]) -> Tally
         }
         let step = run_case(stream, at, search);
         if stream.len() < step.next {
-            print_malformed(at);
+            print_malformed(rt, at);
             break;
         }
         let got = step.got;
         let expected = step.expected;
         let left = step.search;
-        tally = compare(tally, step.op, got, expected);
+        tally = compare(rt, tally, step.op, got, expected);
         search = left;
         at = step.next;
     }
@@ -120,9 +121,25 @@ fn stream_room() -> [u8; LONGEST_STREAM]
     [0; LONGEST_STREAM]
 }
 
-fn main() {
+// Reads until the buffer is full, the input ends or a read fails; says how many bytes it put at the buffer's start.
+fn read_full<R: Read>(reader: &mut R, buffer: &mut [u8]) -> usize
+    ensures within { result ≤ length buffer.new }
+    ensures same_length { length buffer.new ≡ length buffer.old }
+{
+    let mut read = 0;
+    while read < buffer.len() {
+        match reader.read(&mut buffer[read..]) {
+            Ok(0) => break,
+            Ok(n) => read += n,
+            Err(_) => break,
+        }
+    }
+    read
+}
+
+fn main(rt: HostRuntime) {
     let mut stream = stream_room();
-    let read = io::read_full(STDIN_FILENO, &mut stream);
-    let tally = run(&stream[..read]);
-    print_tally(tally.cases, tally.differ);
+    let read = read_full(&mut rt.stdin(), &mut stream);
+    let tally = run(&rt, &stream[..read]);
+    print_tally(&rt, tally.cases, tally.differ);
 }
