@@ -30,11 +30,11 @@ returns-in-12 c =
 
 pub returns-in-13 : goal.returns-in-13
 unfolding OutcomeMade
-returns-in-13 c = rw c.in-13.is (refl, c.call_first.ensures)
+returns-in-13 c = rw c.in-13.is (refl, search rules)
 
 pub returns-in-14 : goal.returns-in-14
 unfolding OutcomeMade
-returns-in-14 c = rw c.in-14.is (refl, c.call_resent.ensures)
+returns-in-14 c = rw c.in-14.is (refl, search rules)
 
 pub returns-in_default : goal.returns-in_default
 unfolding OutcomeMade
