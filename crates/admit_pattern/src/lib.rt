@@ -54,7 +54,7 @@ pub fn admit_method(pattern: &[u8], counts: &[u8; 256], k: u8, method: u8) -> Ad
 }
 
 // Whether a pattern is taken, and if it is, how often it has each byte: a call counts it once. Of one that is not, the counts are 0.
-#[derive(Drop)]
+#[derive(Clone, Copy)]
 pub struct AdmittedPattern {
     pub admission: Admission,
     pub counts: [u8; 256],

@@ -7,7 +7,7 @@ ghost use Rattle.std.specs.Prelude.{◌≡◌};
 ghost use Rattle.answers.specs.Numbers.{number_of};
 
 // Why a call is refused, in the order of the table; specs/ gives each case its number.
-#[derive(Drop)]
+#[derive(Clone, Copy)]
 pub enum Refusal {
     PatternLength,
     ToleranceTooLarge,
@@ -50,21 +50,21 @@ pub fn number_of(refusal: Refusal) -> usize
 }
 
 // Whether a call is refused that has no other answer: open, set method and load.
-#[derive(Drop)]
+#[derive(Clone, Copy)]
 pub enum Admission {
     Accepted,
     Refused(Refusal),
 }
 
 // What a search of a text or of a chunk answers.
-#[derive(Drop)]
+#[derive(Clone, Copy)]
 pub enum Answer {
     Listed { found: usize, inspections: usize },
     Refused(Refusal),
 }
 
 // What a whole search with its sheet answers (document 02, T-02): the two counts, and how many bytes the sheet has.
-#[derive(Drop)]
+#[derive(Clone, Copy)]
 pub enum SheetAnswer {
     Written {
         found: usize,
@@ -75,7 +75,7 @@ pub enum SheetAnswer {
 }
 
 // What a search for the first match from a given position on answers (document 02, T-08): the position, where there is one, and the inspections made.
-#[derive(Drop)]
+#[derive(Clone, Copy)]
 pub enum FirstAnswer {
     Found { position: usize, inspections: usize },
     Nothing { inspections: usize },
@@ -83,7 +83,7 @@ pub enum FirstAnswer {
 }
 
 // What a save answers: the image's length.
-#[derive(Drop)]
+#[derive(Clone, Copy)]
 pub enum Saving {
     Written(usize),
     Refused(Refusal),

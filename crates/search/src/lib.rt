@@ -29,21 +29,21 @@ pub struct Search {
 }
 
 // A search, and whether the call that hands it back was refused.
-#[derive(Drop)]
+#[derive(Clone, Copy)]
 pub struct SearchResult {
     pub admission: Admission,
     pub search: Search,
 }
 
 // A search that was fed a chunk, and what was found.
-#[derive(Drop)]
+#[derive(Clone, Copy)]
 pub struct FeedResult {
     pub answer: Answer,
     pub search: Search,
 }
 
 // A search as it came, and what became of its image.
-#[derive(Drop)]
+#[derive(Clone, Copy)]
 pub struct SaveResult {
     pub saving: Saving,
     pub search: Search,
