@@ -20,7 +20,7 @@ pub struct Range {
 }
 
 // How many positions a search found, and the inspections that it made.
-#[derive(Drop)]
+#[derive(Clone, Copy, Debug, PartialEq, Eq)]
 pub struct SearchCounts {
     pub found: usize,
     pub inspections: usize,
