@@ -6,10 +6,10 @@ ghost use Rattle.std.specs.Prelude.{◌≡◌, ◌++◌, ◌+◌, ◌-◌, ◌^�
 ghost use Rattle.chunk_seam.specs.Seam.{seam_of};
 ghost use Rattle.chunk_seam.specs.Joined.{Parted};
 
-use lent::{Range, copy_in, least};
+use lent::{Range, copy_in};
 
 // The windows of a tail and of the chunk after it.
-#[derive(Drop)]
+#[derive(Clone, Copy)]
 pub struct Split {
     // How many bytes the tail has, the seam's first ones.
     pub tail: usize,
@@ -25,8 +25,8 @@ pub fn split_starts(m: usize, tail: usize, chunk: usize, base: usize) -> Split
     ensures { Parted m tail chunk base result }
 {
     let past = tail + chunk + 1;
-    let starts = past - least(past, m);
-    let in_tail = least(starts, tail);
+    let starts = past - m.min(past);
+    let in_tail = starts.min(tail);
     Split {
         tail,
         over_tail: Range {
@@ -44,6 +44,14 @@ pub fn split_starts(m: usize, tail: usize, chunk: usize, base: usize) -> Split
     }
 }
 
+// A seam, which the tail begins, the chunk after the tail, and the windows of both: what a search of the two goes over.
+#[derive(Clone, Copy)]
+pub struct Joined<'a> {
+    pub seam: &'a [u8],
+    pub chunk: &'a [u8],
+    pub split: Split,
+}
+
 // The tail and the first bytes of a chunk: all that the windows which start in the tail reach. The bytes past these are 0.
 #[derive(Drop)]
 pub struct Seam {
@@ -56,7 +64,7 @@ pub fn seam_of(tail: &[u8], chunk: &[u8], m: usize) -> Seam
     requires { (length tail.now < m) × (m ≤ 64) }
     ensures { result ≡ seam_of (tail.now ++ take (m - 1) chunk.now) }
 {
-    let count = least(chunk.len(), m - 1);
+    let count = chunk.len().min(m - 1);
     let mut bytes = [0u8; 128];
     let tail_end = copy_in(tail, &mut bytes, 0);
     let len = copy_in(&chunk[..count], &mut bytes, tail_end);

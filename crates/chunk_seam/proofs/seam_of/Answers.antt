@@ -32,4 +32,4 @@ returns c =
     let args = c.args in
     filled-seam (written_then c.copy_in-tail_end.ensures c.copy_in-len.ensures (omega (arith, length-replicate {A = ℕ} 128 0)))
     ∙ ap (λ (l : List ℕ). seam_of (args.tail.now ++ l))
-    (ap (λ (n : ℕ). take n args.chunk.now) c.least-count.ensures ∙ reach (args.m - 1) args.chunk.now)
+    (ap (λ (n : ℕ). take n args.chunk.now) c.min-count.ensures ∙ reach (args.m - 1) args.chunk.now)
