@@ -2,14 +2,13 @@
 use mathlib.Core.Path.{◌≡◌, refl, sym, ap, ◌∙◌}
 use mathlib.Core.Bool.{false}
 use Prim.Native.Nat.{ℕ, ◌<◌}
+use Rattle.std.specs.Prelude.{Result, Err}
 use native.Mathlib.Omega.{arith}
 use lib.Dec.{eqb, lit<}
 use borrow.Author.Tests.{eq-eqb, ne_eqb}
 use Rattle.answers.specs.declared.Refusal.{Refusal}
 use Rattle.answers.specs.declared.Refusal.TheVariants.{PatternLength, ToleranceTooLarge, UnknownMethod, ToleranceNotTaken, FieldsTooWide, TextTooLong, TooFewPlaces, TotalTooLarge, Malformed, BufferTooShort, BadRequest, PatternSet, LostHourInPattern, BadEntries, ConflictingEntries}
-use Rattle.answers.specs.declared.Admission.{Admission}
-use Rattle.answers.specs.declared.Admission.TheVariants.{Refused}
-use Rattle.answers.specs.Numbers.{number_of, admission_number, unless_refused}
+use Rattle.answers.specs.Numbers.{number_of, answer_number, unless_refused}
 
 pub number-positive : (refusal : Refusal) → 0 < number_of refusal
 number-positive PatternLength = lit< tt
@@ -57,9 +56,9 @@ on-accepted number accepted refused e = rw (eq-eqb number 0 e) refl
 -- ---- tests after other tests: the first number, or the later one where nothing is refused before
 
 module _ (first later : ℕ) where
-  pub still-refused : (admission : Admission) (refusal : Refusal) → admission ≡ Refused refusal
-      → admission_number admission ≡ first → admission_number admission ≡ unless_refused first later first
-  still-refused admission refusal refused e = e ∙ on-refusal refusal first later first (ap admission_number (sym refused) ∙ e)
+  pub still-refused : {A : Type 0} (answer : Result A Refusal) (refusal : Refusal) → answer ≡ Err refusal
+      → answer_number answer ≡ first → answer_number answer ≡ unless_refused first later first
+  still-refused answer refusal refused e = e ∙ on-refusal refusal first later first (ap answer_number (sym refused) ∙ e)
 
   pub tested-later : first ≡ 0 → later ≡ unless_refused first later first
   tested-later none = on-accepted first later first none

@@ -1,9 +1,7 @@
 -- The numbers of document 01, "When a call says no", and from 12 on of document 02, for the refusals that the code names.
-use Rattle.std.specs.Prelude.{cond, ℕ, eqb}
+use Rattle.std.specs.Prelude.{cond, ℕ, eqb, Result, Ok, Err}
 use Rattle.answers.specs.declared.Refusal.{Refusal}
 use Rattle.answers.specs.declared.Refusal.TheVariants.{PatternLength, ToleranceTooLarge, UnknownMethod, ToleranceNotTaken, FieldsTooWide, TextTooLong, TooFewPlaces, TotalTooLarge, Malformed, BufferTooShort, BadRequest, PatternSet, LostHourInPattern, BadEntries, ConflictingEntries}
-use Rattle.answers.specs.declared.Admission.{Admission}
-use Rattle.answers.specs.declared.Admission.TheVariants.{Accepted, Refused}
 
 abbrev pub number_of : Refusal → ℕ
 number_of PatternLength = 1
@@ -22,10 +20,10 @@ number_of LostHourInPattern = 13
 number_of BadEntries = 15
 number_of ConflictingEntries = 16
 
--- 0 where nothing is refused
-abbrev pub admission_number : Admission → ℕ
-admission_number Accepted = 0
-admission_number (Refused refusal) = number_of refusal
+-- The number of any call's answer: 0 where nothing is refused
+abbrev pub answer_number : {A : Type 0} → Result A Refusal → ℕ
+answer_number (Ok answered) = 0
+answer_number (Err refusal) = number_of refusal
 
 -- What holds where the number is 0, and what holds on a refusal
 abbrev pub unless_refused : {A : Type 0} → ℕ → A → A → A

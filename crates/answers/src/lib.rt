@@ -6,8 +6,10 @@
 ghost use Rattle.std.specs.Prelude.{◌≡◌};
 ghost use Rattle.answers.specs.Numbers.{number_of};
 
+use lent::SearchCounts;
+
 // Why a call is refused, in the order of the table; specs/ gives each case its number.
-#[derive(Clone, Copy)]
+#[derive(Clone, Copy, Debug, PartialEq, Eq)]
 pub enum Refusal {
     PatternLength,
     ToleranceTooLarge,
@@ -50,41 +52,31 @@ pub fn number_of(refusal: Refusal) -> usize
 }
 
 // Whether a call is refused that has no other answer: open, set method and load.
-#[derive(Clone, Copy)]
-pub enum Admission {
-    Accepted,
-    Refused(Refusal),
-}
+pub type Admission = Result<(), Refusal>;
 
 // What a search of a text or of a chunk answers.
-#[derive(Clone, Copy)]
-pub enum Answer {
-    Listed { found: usize, inspections: usize },
-    Refused(Refusal),
+pub type Answer = Result<SearchCounts, Refusal>;
+
+// What a whole search with its sheet counted (document 02, T-02): the two counts, and how many bytes the sheet has.
+#[derive(Clone, Copy, Debug, PartialEq, Eq)]
+pub struct SheetCounts {
+    pub found: usize,
+    pub inspections: usize,
+    pub len: usize,
 }
 
-// What a whole search with its sheet answers (document 02, T-02): the two counts, and how many bytes the sheet has.
-#[derive(Clone, Copy)]
-pub enum SheetAnswer {
-    Written {
-        found: usize,
-        inspections: usize,
-        len: usize,
-    },
-    Refused(Refusal),
+// What a whole search with its sheet answers.
+pub type SheetAnswer = Result<SheetCounts, Refusal>;
+
+// What a search for the first match from a given position on came to (document 02, T-08): the position, where there is one, and the inspections made.
+#[derive(Clone, Copy, Debug, PartialEq, Eq)]
+pub struct First {
+    pub position: Option<usize>,
+    pub inspections: usize,
 }
 
-// What a search for the first match from a given position on answers (document 02, T-08): the position, where there is one, and the inspections made.
-#[derive(Clone, Copy)]
-pub enum FirstAnswer {
-    Found { position: usize, inspections: usize },
-    Nothing { inspections: usize },
-    Refused(Refusal),
-}
+// What a search for the first match answers.
+pub type FirstAnswer = Result<First, Refusal>;
 
 // What a save answers: the image's length.
-#[derive(Clone, Copy)]
-pub enum Saving {
-    Written(usize),
-    Refused(Refusal),
-}
+pub type Saving = Result<usize, Refusal>;
