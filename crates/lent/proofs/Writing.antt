@@ -1,12 +1,13 @@
 -- Laws of what a writer yields: nothing, two writes in a row or the other way round, one byte more, and the buffer's length.
 use mathlib.Core.Path.{◌≡◌, sym, ap, ap₂, ◌∙◌}
 use mathlib.Core.List.{List, [], ◌∷◌, ◌++◌}
-use Prim.Native.Nat.{ℕ, ◌+◌, ◌≤◌, ◌<◌}
+use borrow.Rule.Slice.PartMut.{put_mid}
+use Prim.Native.Nat.{ℕ, ◌+◌, ◌-◌, ◌≤◌, ◌<◌}
 use native.Mathlib.Nat.{add-zero, add_assoc}
 use native.Mathlib.Numerals.{add-one}
 use native.Mathlib.Omega.{arith}
-use lib.ListN.{length, get_or, take, set, length-append}
-use lib.Seq.{length-take-le, take-suc}
+use lib.ListN.{length, get_or, take, drop, set, length-append}
+use lib.Seq.{length-take-le, take-suc, drop-drop}
 use Rattle.lent.specs.Placed.{placed}
 use Rattle.lent.proofs.Placing.{placed-nil, length-placed, placed-placed, placed-front, placed-next}
 use Rattle.lent.specs.Written.{Written}
@@ -65,6 +66,15 @@ module _ {b : List ℕ} {at : ℕ} {U middle : List ℕ} {place : ℕ} (w : Writ
 -- a byte alone is one more than none
 pub written_byte : (b : List ℕ) (at v : ℕ) → at < length b → Written b at (v ∷ []) (set b at v) (at + 1)
 written_byte b at v room = written-more (written_none b at) (omega arith) v
+
+-- a part of the buffer overwritten as a whole
+pub written_part : (b : List ℕ) (at next : ℕ) {U part : List ℕ} → part ≡ U → next ≡ at + length U → Written b at U (put_mid at (next - at) b part) next
+unfolding placed
+written_part b at next {U} {part} is place =
+    record {
+      filled = ap₂ (λ (bytes rest : List ℕ). take at b ++ (bytes ++ rest)) is (drop-drop (next - at) at b ∙ ap (λ (n : ℕ). drop n b) (omega arith));
+      place = place;
+    }
 
 -- a loop that copies a list: the byte at i goes where the i bytes before it end
 module _ {b : List ℕ} {at : ℕ} (S : List ℕ) (i : ℕ) {middle : List ℕ}

@@ -6,6 +6,8 @@
 ghost use Rattle.std.specs.Prelude.{◌≡◌, ◌+◌, ◌≤◌, min, length, replicate};
 ghost use Rattle.lent.specs.Written.{Written};
 
+use std::io::Read;
+
 // The window starts of a slice that a loop searches, and where their positions go.
 #[derive(Clone, Copy)]
 pub struct Range {
@@ -31,12 +33,9 @@ pub fn copy_in(source: &[u8], buffer: &mut [u8], at: usize) -> usize
     requires { at + length source.now ≤ length buffer.old }
     ensures { Written buffer.old at source.now buffer.new result }
 {
-    let mut i = 0;
-    while i < source.len() {
-        buffer[at + i] = source[i];
-        i += 1;
-    }
-    at + i
+    let next = at + source.len();
+    buffer[at..next].copy_from_slice(source);
+    next
 }
 
 // So many times a byte, put into the buffer from a place on; the place after them is given.
@@ -44,12 +43,31 @@ pub fn fill(byte: u8, count: usize, buffer: &mut [u8], at: usize) -> usize
     requires { at + count ≤ length buffer.old }
     ensures { Written buffer.old at (replicate count byte) buffer.new result }
 {
-    let mut i = 0;
-    while i < count {
-        buffer[at + i] = byte;
-        i += 1;
+    let next = at + count;
+    buffer[at..next].fill(byte);
+    next
+}
+
+// So many times a number, by its count N. That many are there by a law: the prover would count the places of a large N one by one.
+pub fn room<T: Copy, const N: usize>(blank: T) -> [T; N]
+    ensures { (result ≡ replicate N blank) × (N ≡ length result) }
+{
+    [blank; N]
+}
+
+// Reads until the buffer is full, the input ends or a read fails; says how many bytes it put at the buffer's start.
+pub fn read_full<R: Read>(reader: &mut R, buffer: &mut [u8]) -> usize
+    ensures within { result ≤ length buffer.new }
+    ensures same_length { length buffer.new ≡ length buffer.old }
+{
+    let mut read = 0;
+    while read < buffer.len() {
+        match reader.read(&mut buffer[read..]) {
+            Ok(0) | Err(_) => break,
+            Ok(n) => read += n,
+        }
     }
-    at + i
+    read
 }
 
 // The smaller of two numbers: as much as there is, or as much as there is room for.

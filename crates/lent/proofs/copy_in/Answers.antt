@@ -1,15 +1,7 @@
--- `lent::copy_in` meets its contract: after i turns the first i bytes of the source stand in the buffer.
-use native.Mathlib.Nat.{add-zero}
-use native.Mathlib.Omega.{arith}
-use Rattle.lent.proofs.Writing.{written_none, copied_more}
+-- `lent::copy_in` meets its contract: a part of the buffer is overwritten.
+use mathlib.Core.Path.{refl}
+use Rattle.lent.proofs.Writing.{written_part}
 use Rattle.lent.proofs.copy_in.Goals as goal
 
-pub loop-i-init : goal.loop-i-init
-loop-i-init c = (omega arith, rw add-zero (written_none _ _))
-
-pub loop-i-preserved : goal.loop-i-preserved
-loop-i-preserved c =
-    let turn = c in (
-      omega arith,
-      copied_more turn.args.source.now turn.loop-i.i turn.loop-i.invariant.1 (omega arith) turn.requires,
-    )
+pub returns : goal.returns
+returns c = written_part _ _ _ c.copy_from_slice.ensures.after refl

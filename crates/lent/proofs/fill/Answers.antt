@@ -1,21 +1,12 @@
--- `lent::fill` meets its contract: after i turns the byte stands i times in the buffer.
-use Prim.Native.Nat.{◌≤◌, ◌<◌, ◌+◌}
-use native.Mathlib.Nat.{add-zero}
-use native.Mathlib.Omega.{arith}
-use lib.ListN.{length, replicate, length-replicate, get_or-replicate}
-use Rattle.lent.proofs.Writing.{written_none, copied_more}
+-- `lent::fill` meets its contract: a part of the buffer is overwritten by the byte, over and over.
+use Rattle.std.proofs.Common.{◌≡◌, ℕ, List, ◌+◌, ◌-◌, length, take, drop, replicate, sym, ap, ◌∙◌, arith, length-take, length-drop}
+use Rattle.std.proofs.lemmas.List.{length-replicate}
+use Rattle.lent.proofs.Writing.{written_part}
 use Rattle.lent.proofs.fill.Goals as goal
 
-pub loop-i-init : goal.loop-i-init
-loop-i-init c = (omega arith, rw add-zero (written_none _ _))
-
-pub loop-i-preserved : goal.loop-i-preserved
-loop-i-preserved c =
-    let room : c.args.at + length (replicate c.args.count c.args.byte) ≤ length c.args.buffer.now = omega (arith, length-replicate c.args.count c.args.byte, c.requires) in
-    let left : c.loop-i.i < length (replicate c.args.count c.args.byte) = omega (arith, length-replicate c.args.count c.args.byte) in
-    let start = c in
-    let i = c.loop-i.i in (
-      omega arith,
-      rw (get_or-replicate start.args.count i start.args.byte 0 (omega arith)) at
-          (copied_more (replicate start.args.count start.args.byte) i c.loop-i.invariant.1 (left) (room)),
-    )
+pub returns : goal.returns
+returns c =
+    let part : List ℕ = take (c.args.at + c.args.count - c.args.at) (drop c.args.at c.args.buffer.now) in
+    let places : length part ≡ c.args.count = omega (arith, length-take {A = ℕ}, length-drop {A = ℕ}) in
+    let all = ap (λ (n : ℕ). replicate n c.args.byte) places in
+    written_part _ _ _ (c.fill.ensures.after (λ _ same. same) ∙ all) (ap (λ (n : ℕ). c.args.at + n) (sym (length-replicate c.args.count c.args.byte)))
