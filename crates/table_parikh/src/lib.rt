@@ -16,11 +16,8 @@ pub fn counts(s: &[u8]) -> [u8; 256]
     ensures { result ≡ parikh s.now }
 {
     let mut counts = [0u8; 256];
-    let mut i = 0;
-    while i < s.len() {
-        let byte = s[i] as usize;
-        counts[byte] += 1;
-        i += 1;
+    for byte in s {
+        counts[*byte as usize] += 1;
     }
     counts
 }
@@ -29,11 +26,7 @@ pub fn counts(s: &[u8]) -> [u8; 256]
 pub fn lost_hours(bytes: &[u8]) -> usize
     ensures { result ≡ cc bytes.now lost_hour }
 {
-    let mut lost = 0;
-    for i in 0..bytes.len() {
-        lost += (bytes[i] == LOST_HOUR) as usize;
-    }
-    lost
+    bytes.iter().filter(|byte| **byte == LOST_HOUR).count()
 }
 
 // How often a window may have each byte, by the pattern's counts: as often as the pattern has it, and a lost hour more often than a window has bytes.
@@ -46,7 +39,7 @@ pub fn allowances(counts: &[u8; 256]) -> [u8; 256]
 }
 
 // The bytes from `low` up to the one before `past`.
-#[derive(Clone, Copy)]
+#[derive(Clone, Copy, Debug, PartialEq, Eq)]
 pub struct Span {
     pub low: usize,
     pub past: usize,
@@ -58,14 +51,10 @@ pub fn span_of(pattern: &[u8]) -> Span
 {
     let mut low: usize = 256;
     let mut past: usize = 0;
-    for i in 0..pattern.len() {
-        let byte = pattern[i] as usize;
-        if byte < low {
-            low = byte;
-        }
-        if past <= byte {
-            past = byte + 1;
-        }
+    for byte in pattern {
+        let byte = *byte as usize;
+        low = low.min(byte);
+        past = past.max(byte + 1);
     }
     Span { low, past }
 }
@@ -76,9 +65,8 @@ pub fn occurring(pattern: &[u8]) -> [bool; 256]
 {
     let mut occurs = [false; 256];
     occurs[LOST_HOUR as usize] = true;
-    for i in 0..pattern.len() {
-        let byte = pattern[i] as usize;
-        occurs[byte] = true;
+    for byte in pattern {
+        occurs[*byte as usize] = true;
     }
     occurs
 }
@@ -89,8 +77,8 @@ pub fn within(allowed: &[u8; 256], window: &[u8]) -> bool
     ensures { result ≡ within_counts allowed.now window.now }
 {
     let mut used = [0u8; 256];
-    for i in 0..window.len() {
-        let byte = window[i] as usize;
+    for byte in window {
+        let byte = *byte as usize;
         if used[byte] >= allowed[byte] {
             return false;
         }
