@@ -2,6 +2,7 @@
 use Rattle.std.specs.Prelude.{◌≡◌, List, ◌++◌, ℕ, suc, ◌+◌, ◌-◌, ◌^◌, ◌≤◌, ◌<◌, min, length, take}
 use Rattle.lent.specs.declared.Range.{Range}
 use Rattle.chunk_seam.specs.declared.Split.{Split}
+use Rattle.chunk_seam.specs.declared.Joined.{Joined}
 
 -- The tail is shorter than a window, every position fits 32 bits, and the list has a place for each window that starts in the tail and for the first
 -- one in the chunk
@@ -36,3 +37,12 @@ pub record Prepared (m : ℕ) (seam chunk : List ℕ) (split : Split) (list : Li
   pub parted : Parted m (length (take split.tail seam)) (length chunk) split.over_tail.base split
   pub reaching : seam ≡ take split.tail seam ++ take (m - 1) chunk
   pub any : 0 < split.over_tail.end + split.over_chunk.end
+
+-- ---- of a seam, a chunk and their windows, kept together
+
+abbrev pub PreparedIn : ℕ → Joined → List ℕ → Type 0
+PreparedIn m j list = Prepared m j.seam.now j.chunk.now j.split list
+
+-- The text that they are of
+abbrev pub text_of : Joined → List ℕ
+text_of j = joined j.split j.seam.now j.chunk.now
