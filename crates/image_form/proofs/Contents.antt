@@ -1,5 +1,5 @@
 -- Laws of what any bytes say, read as an image.
-use mathlib.Core.Path.{◌≡◌, refl, sym, ap, ap₂, ◌∙◌}
+use mathlib.Core.Path.{◌≡◌, refl, ap, ap₂, ◌∙◌}
 use mathlib.Core.Bool.{Bool, true, false, not, ◌&&◌, ◌||◌}
 use mathlib.Core.List.{List}
 use Prim.Native.Nat.{ℕ, zero, suc, ◌+◌, ◌-◌, ◌*◌, ◌≤◌}
@@ -9,16 +9,9 @@ use native.Mathlib.Omega.{arith}
 use lib.Dec.{eqb}
 use lib.ListN.{length, get_or, drop, length-take, length-drop}
 use lib.Seq.{get_or-drop}
-use borrow.Author.Tests.{eq-eqb, ne_eqb, eqb-true, ltb-false, le-ltb, not-false}
+use borrow.Author.Tests.{eq-eqb, eqb-true, ltb-false, le-ltb, not-false}
 use Rattle.image_form.specs.Decode.{kind_at, length_of, end_of, body_of, kinds_right, bad_form}
 use Rattle.image_form.proofs.Numbers.{number-two}
-
--- a test of a number by what it equals
-pub equal-known : {r n : ℕ} (k : ℕ) → r ≡ n → r ≡ k → eqb n k ≡ true
-equal-known {r} {n} k e same = eq-eqb n k (sym e ∙ same)
-
-pub differs-known : {r n : ℕ} (k : ℕ) → r ≡ n → (r ≡ k → ⊥) → eqb n k ≡ false
-differs-known {r} {n} k e differ = ne_eqb n k (λ (same : n ≡ k). differ (e ∙ same))
 
 -- ---- lengths and ends
 

@@ -13,7 +13,7 @@ fn length_of(image: &[u8], kind: usize) -> usize
     requires { (13 ≤ length image.now) × (1 ≤ kind) × (kind ≤ 4) }
     ensures { (result ≡ length_of kind image.now) × (result < 2 ^ 16) }
 {
-    image[3 * kind - 1] as usize + 256 * (image[3 * kind] as usize)
+    u16::from_le_bytes([image[3 * kind - 1], image[3 * kind]]) as usize
 }
 
 // Where the body of a kind ends; 0 stands for what comes before the bodies.
@@ -22,51 +22,32 @@ fn end_of(image: &[u8], kind: usize) -> usize
     ensures { (result ≡ end_of kind image.now) × (result < 2 ^ 19) }
 {
     let mut end = HEAD;
-    let mut i = 0;
-    while i < kind {
-        i += 1;
-        end += length_of(image, i);
+    for before in 0..kind {
+        end += length_of(image, before + 1);
     }
     end
 }
 
 // The entries are of the kinds 1, 2, 3 and 4, in this order.
+#[tactic(auto, unfolding(image_form::specs::Decode::kinds_right, image_form::specs::Decode::kind_at))]
 fn kinds_right(image: &[u8]) -> bool
     requires { 13 ≤ length image.now }
     ensures { result ≡ kinds_right image.now }
 {
-    if image[1] != 1 {
-        return false;
-    }
-    if image[4] != 2 {
-        return false;
-    }
-    if image[7] != 3 {
-        return false;
-    }
-    image[10] == 4
+    image[1] == 1 && image[4] == 2 && image[7] == 3 && image[10] == 4
 }
 
 // The form is one that load takes.
+#[tactic(auto, unfolding(image_form::specs::Decode::bad_form))]
 pub fn well_formed(image: &[u8]) -> bool
     ensures { result ≡ not (bad_form image.now) }
 {
-    if image.len() < HEAD {
-        return false;
-    }
-    if image[0] != 4 {
-        return false;
-    }
-    if !kinds_right(image) {
-        return false;
-    }
-    if length_of(image, 2) != 2 {
-        return false;
-    }
-    if length_of(image, 3) != 4 {
-        return false;
-    }
-    image.len() == end_of(image, 4)
+    HEAD <= image.len()
+        && image[0] == 4
+        && kinds_right(image)
+        && length_of(image, 2) == 2
+        && length_of(image, 3) == 4
+        && image.len() == end_of(image, 4)
 }
 
 // The body of a kind, as a part of the image.
@@ -80,6 +61,7 @@ pub fn body_of(image: &[u8], kind: usize) -> &[u8]
 }
 
 // The tolerance that an image holds.
+#[tactic(auto, using(image_form::proofs::Contents::two_bytes))]
 pub fn tolerance(image: &[u8]) -> u8
     requires { bad_form image.now ≡ false }
     ensures { result ≡ (parts_of image.now).k }
@@ -88,6 +70,7 @@ pub fn tolerance(image: &[u8]) -> u8
 }
 
 // The method that an image holds.
+#[tactic(auto, using(image_form::proofs::Contents::two_bytes))]
 pub fn method(image: &[u8]) -> u8
     requires { bad_form image.now ≡ false }
     ensures { result ≡ (parts_of image.now).method }
@@ -95,18 +78,12 @@ pub fn method(image: &[u8]) -> u8
     body_of(image, 2)[1]
 }
 
-// A number of 32 bits from its bytes, low byte first.
-fn number_read(first: u8, second: u8, third: u8, fourth: u8) -> u32
-    ensures { result ≡ first + 256 * (second + 256 * (third + 256 * fourth)) }
-{
-    first as u32 + 256 * (second as u32 + 256 * (third as u32 + 256 * (fourth as u32)))
-}
-
 // The total n that an image holds.
+#[tactic(auto, using(image_form::proofs::Contents::four_bytes))]
 pub fn total(image: &[u8]) -> u32
     requires { bad_form image.now ≡ false }
     ensures { result ≡ (parts_of image.now).total }
 {
     let bytes = body_of(image, 3);
-    number_read(bytes[0], bytes[1], bytes[2], bytes[3])
+    u32::from_le_bytes([bytes[0], bytes[1], bytes[2], bytes[3]])
 }
