@@ -2,12 +2,12 @@
 
 #![tactic(auto)]
 
-ghost use Rattle.std.specs.Prelude.{◌≡◌, ◌≤◌};
+ghost use Rattle.std.specs.Prelude.{◌≡◌};
 ghost use Rattle.charge_form.specs.Charge.{sixes_begun};
 ghost use Rattle.charge_runs.specs.Covering.{Coverable, Covers};
 
 // How many hours are marked, and how often six hours are begun in their runs.
-#[derive(Drop)]
+#[derive(Clone, Copy, Debug, PartialEq, Eq)]
 pub struct Covered {
     pub hours: usize,
     pub sixes: usize,
@@ -15,10 +15,9 @@ pub struct Covered {
 
 // How often six hours are begun in a run.
 fn sixes_begun(hours: usize) -> usize
-    requires { hours ≤ 4294967360 }
     ensures { result ≡ sixes_begun hours }
 {
-    (hours + 5) / 6
+    hours.div_ceil(6)
 }
 
 // The windows have m hours. Their positions are ascending, so that a window marks new hours at the end of the last run, or begins a run of its own.
@@ -30,9 +29,8 @@ pub fn cover(m: usize, positions: &[u32]) -> Covered
     let mut sixes = 0;
     let mut run = 0; // the hours right before `end` that are marked
     let mut end = 0; // of the windows so far
-    let mut i = 0;
-    while i < positions.len() {
-        let start = positions[i] as usize;
+    for position in positions {
+        let start = *position as usize;
         if end < start {
             // An hour lies between that no window has: the run is over.
             hours += run;
@@ -43,7 +41,6 @@ pub fn cover(m: usize, positions: &[u32]) -> Covered
         // Hours that the last window has too are counted already.
         run += start + m - end;
         end = start + m;
-        i += 1;
     }
     Covered {
         hours: hours + run,

@@ -8,25 +8,25 @@ use Rattle.charge_runs.proofs.Walking.{Walked, walk-starts, run-over, run-longer
 use Rattle.charge_runs.proofs.cover.Goals as goal
 use Rattle.charge_runs.proofs.cover.Goals.{then-end-start, else-end-start}
 
-pub loop-i-init : goal.loop-i-init
-loop-i-init c = (walk-starts c.args.m c.args.positions.now, omega arith)
+pub loop-position-init : goal.loop-position-init
+loop-position-init c = (walk-starts c.args.m c.args.positions.now, omega arith)
 
-pub loop-i-preserved : goal.loop-i-preserved
-loop-i-preserved c =
+pub loop-position-preserved : goal.loop-position-preserved
+loop-position-preserved c =
     let positions = c.args.positions.now in
-    let joined : Walked c.args.m positions c.if-end-start.hours c.if-end-start.sixes c.if-end-start.run c.if-end-start.end c.loop-i.i
-    × (get_or positions c.loop-i.i 0 ≤ c.if-end-start.end) =
+    let joined : Walked c.args.m positions c.if-end-start.hours c.if-end-start.sixes c.if-end-start.run c.if-end-start.end c.loop-position.position-index
+    × (get_or positions c.loop-position.position-index 0 ≤ c.if-end-start.end) =
     elim c.if-end-start.branch [
       | then-end-start w ↦
-          rw (w.hours-is, w.sixes-is ∙ ap (λ (x : ℕ). c.loop-i.sixes + x) w.sixes_begun-sixes.ensures, w.run-is, w.end-is)
-          (run-over c.args.m positions c.requires c.loop-i.invariant.0 (omega arith) w.if-end-start.true, le_refl (get_or positions c.loop-i.i 0))
-      | else-end-start w ↦ rw (w.hours-is, w.sixes-is, w.run-is, w.end-is) (c.loop-i.invariant.0, w.if-end-start.false)
+          rw (w.hours-is, w.sixes-is ∙ ap (λ (x : ℕ). c.loop-position.sixes + x) w.sixes_begun-sixes.ensures, w.run-is, w.end-is)
+          (run-over c.args.m positions c.requires c.loop-position.invariant.0 (omega arith) w.if-end-start.true, le_refl (get_or positions c.loop-position.position-index 0))
+      | else-end-start w ↦ rw (w.hours-is, w.sixes-is, w.run-is, w.end-is) (c.loop-position.invariant.0, w.if-end-start.false)
     ] in
-    let small : get_or positions c.loop-i.i 0 < 2 ^ 32 = omega (arith, (c.type_inv.positions c.loop-i.i).fits) in (
+    let small : get_or positions c.loop-position.position-index 0 < 2 ^ 32 = omega (arith, (c.type_inv.positions c.loop-position.position-index).fits) in (
       run-longer c.args.m positions c.requires joined.0 (omega arith) joined.1,
       omega (arith, small, c.requires.short),
     )
 
 pub returns : goal.returns
 returns c =
-    rw c.sixes_begun.ensures (walk_ends c.args.m c.args.positions.now c.requires c.loop-i.invariant.0 (omega arith))
+    rw c.sixes_begun.ensures (walk_ends c.args.m c.args.positions.now c.requires c.loop-position.invariant.0 (omega arith))
