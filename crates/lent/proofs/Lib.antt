@@ -2,3 +2,4 @@ pub mod Placing
 pub mod Listing
 pub mod Writing
 pub mod Pieces
+pub mod Appending

@@ -2,3 +2,4 @@ pub mod Placed
 pub mod Loops
 pub mod Found
 pub mod Written
+pub mod Appended

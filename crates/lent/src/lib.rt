@@ -6,6 +6,8 @@
 ghost use Rattle.std.specs.Prelude.{◌≡◌, ◌+◌, ◌≤◌, min, length, replicate};
 ghost use Rattle.lent.specs.Written.{Written};
 
+pub mod writer;
+
 use std::io::Read;
 
 // The window starts of a slice that a loop searches, and where their positions go.

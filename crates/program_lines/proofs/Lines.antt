@@ -13,7 +13,7 @@ use Rattle.ascii.proofs.Decimals.{length-decimal}
 -- ---- the parts of a line, as they are written
 
 pub header-parts : (P : List ℕ) (k method : ℕ)
-    → header P k method ≡ ((ascii "mix " ++ P) ++ (ascii " method " ++ decimal method)) ++ (ascii " k " ++ number_line k)
+    → header P k method ≡ ascii "mix " ++ (P ++ ((ascii " method " ++ decimal method) ++ (ascii " k " ++ number_line k)))
 unfolding header
 header-parts P k method = simp append_assoc
 
@@ -25,7 +25,7 @@ counts-parts found inspections = simp append_assoc
 -- the header, the lines of the first `found` numbers of a list, and the counts
 pub found-parts : (P : List ℕ) (k method : ℕ) (S : List ℕ) (found inspections : ℕ) → found ≤ length S
     → output_text P k method (take found S) inspections
-    ≡ (header P k method ++ position_lines (take found S)) ++ counts_line found inspections
+    ≡ header P k method ++ (position_lines (take found S) ++ counts_line found inspections)
 unfolding output_text
 found-parts P k method S found inspections h = rw (length-take-le found S h) (simp append_assoc)
 

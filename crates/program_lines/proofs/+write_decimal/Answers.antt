@@ -1,33 +1,32 @@
 -- The proof of `program_lines::write_decimal`, which calls itself at n / 10. The measure is n.
+use mathlib.Core.Path.{◌≡◌}
+use mathlib.Core.List.{[], ◌∷◌}
 use native.Mathlib.Omega.{arith}
-use Rattle.lent.proofs.Writing.{written_byte, written-inside, written-more}
-use Rattle.ascii.proofs.Decimals.{decimal-small, decimal-large, length-decimal-small, length-decimal-large}
+use Prim.Native.Nat.{◌+◌, ◌/◌, ◌%◌}
+use Rattle.ascii.proofs.Decimals.{decimal-small, decimal-large}
+use Rattle.lent.proofs.Appending.{appended_then, room_first, room_then}
 use Rattle.program_lines.proofs.+write_decimal.Goals as goal
+use Rattle.program_lines.proofs.+write_decimal.Goals.{then-n-ge10, else-n-ge10}
 
-pub bounds-buffer-at : goal.bounds-buffer-at
-bounds-buffer-at t c = omega (arith, length-decimal-small c.args.n c.if-n-lt10.true)
+pub write_decimal-requires : goal.write_decimal-requires
+write_decimal-requires t c =
+    (omega arith, room_first ((48 + c.args.n % 10) ∷ []) (rw (decimal-large c.args.n c.if-n-ge10.true) at c.requires))
 
-pub returns-then-n-lt10 : goal.returns-then-n-lt10
-returns-then-n-lt10 t c =
-    rw (decimal-small c.args.n c.if-n-lt10.true)
-    (written_byte _ _ _ (omega (arith, length-decimal-small c.args.n c.if-n-lt10.true)))
-
-pub write_decimal-last-requires : goal.write_decimal-last-requires
-write_decimal-last-requires t c = (
-  omega arith,
-  omega (arith, length-decimal-large c.args.n c.if-n-lt10.false),
-)
-
--- after the call there is room for the last digit
-pub bounds-buffer-last : goal.bounds-buffer-last
-bounds-buffer-last t c =
-    written-inside c.write_decimal-last.ensures (omega (arith, length-decimal-large c.args.n c.if-n-lt10.false))
-
-pub overflow_add-result-2 : goal.overflow_add-result-2
-overflow_add-result-2 t c =
-    omega (arith, c.write_decimal-last.ensures.place, length-decimal-large c.args.n c.if-n-lt10.false)
+pub put-requires : goal.put-requires
+put-requires t c =
+    elim c.if-n-ge10.branch [
+      then-n-ge10 w ↦ rw w.writer-is (room_then w.write_decimal.ensures (rw (decimal-large c.args.n w.if-n-ge10.true) at c.requires))
+    | else-n-ge10 w ↦
+        let small : c.args.n % 10 ≡ c.args.n = omega arith in
+        rw (w.writer-is, small) (rw (decimal-small c.args.n (omega arith)) at c.requires)
+    ]
 
 pub returns : goal.returns
 returns t c =
-    rw (decimal-large c.args.n c.if-n-lt10.false)
-    (written-more c.write_decimal-last.ensures (omega (arith, length-decimal-large c.args.n c.if-n-lt10.false)) _)
+    elim c.if-n-ge10.branch [
+      then-n-ge10 w ↦
+        rw (decimal-large c.args.n w.if-n-ge10.true) (appended_then w.write_decimal.ensures (rw w.writer-is at c.put.ensures))
+    | else-n-ge10 w ↦
+        let small : c.args.n % 10 ≡ c.args.n = omega arith in
+        rw (decimal-small c.args.n (omega arith)) (rw (w.writer-is, small) at c.put.ensures)
+    ]

@@ -1,32 +1,28 @@
--- `program_lines::write_positions` meets its contract. The loop's invariant: the lines of the positions passed stand in the buffer.
-use mathlib.Core.List.{◌++◌}
-use Prim.Native.Nat.{◌+◌, ◌≤◌}
+-- `program_lines::write_positions` meets its contract. The loop's invariant: the lines of the positions passed were appended.
 use native.Mathlib.Omega.{arith}
-use lib.ListN.{length, get_or, take}
-use Rattle.program_lines.specs.Lines.{number_line, position_lines}
-use Rattle.lent.proofs.Writing.{written_none, written_then, first_fits, second_fits}
+use lib.ListN.{length}
+use lib.Seq.{take_all}
+use Rattle.program_lines.specs.Lines.{number_line}
 use Rattle.lent.proofs.Pieces.{pieces_none, pieces_more, pieces_room}
+use Rattle.lent.proofs.Appending.{appended_none, appended_then, room_then}
 use Rattle.program_lines.proofs.write_positions.Goals as goal
 
-pub loop-i-init : goal.loop-i-init
-loop-i-init c = (omega arith, rw (pieces_none number_line) (written_none _ _))
+pub loop-position-init : goal.loop-position-init
+loop-position-init c = rw (pieces_none number_line) (appended_none c.args.writer.now (omega arith))
 
-pub write_labeled_line-next-requires : goal.write_labeled_line-next-requires
-write_labeled_line-next-requires c =
-    let room : c.args.at
-    + length (position_lines (take c.loop-i.i c.args.list.now) ++ number_line (get_or c.args.list.now c.loop-i.i 0))
-    ≤ length c.args.buffer.now = pieces_room number_line c.args.list.now c.loop-i.i c.args.count c.args.at (omega arith) c.requires.0 c.requires.1 in
-    second_fits (number_line (get_or c.args.list.now c.loop-i.i 0)) c.loop-i.invariant.1 room
+pub write_labeled_line-requires : goal.write_labeled_line-requires
+write_labeled_line-requires c =
+    let S = c.args.positions.now in
+    room_then c.loop-position.invariant
+    (record {
+      fits = pieces_room number_line S c.loop-position.position-index (length S) c.args.writer.now.at (omega arith) (omega arith)
+          (rw (take_all (length S) S (omega arith)) c.requires.fits);
+    })
 
-pub loop-i-preserved : goal.loop-i-preserved
-loop-i-preserved c =
-    let room : c.args.at
-    + length (position_lines (take c.loop-i.i c.args.list.now) ++ number_line (get_or c.args.list.now c.loop-i.i 0))
-    ≤ length c.args.buffer.now = pieces_room number_line c.args.list.now c.loop-i.i c.args.count c.args.at (omega arith) c.requires.0 c.requires.1 in
-    let i = c.loop-i.i in
-    let S = c.args.list.now in (
-      omega arith,
-      rw (pieces_more number_line S i (omega arith))
-          (written_then c.loop-i.invariant.1 c.write_labeled_line-next.ensures
-          (first_fits c.args.at (position_lines (take i S)) (number_line (get_or S i 0)) room)),
-    )
+pub loop-position-preserved : goal.loop-position-preserved
+loop-position-preserved c =
+    rw (pieces_more number_line c.args.positions.now c.loop-position.position-index (omega arith))
+    (appended_then c.loop-position.invariant c.write_labeled_line.ensures)
+
+pub returns : goal.returns
+returns c = rw (take_all c.loop-position.position-index c.args.positions.now (omega arith)) at c.loop-position.invariant
