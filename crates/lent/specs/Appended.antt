@@ -1,4 +1,4 @@
--- What a writer of a lent buffer appends, and its room.
+-- What a writer of a lent buffer appends, and the room that it needs.
 use Rattle.std.specs.Prelude.{◌≡◌, List, ℕ, ◌+◌, ◌≤◌, length}
 use Rattle.lent.specs.declared.writer.Writer.{Writer}
 use Rattle.lent.specs.Written.{Written}

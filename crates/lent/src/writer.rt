@@ -1,8 +1,8 @@
-// A lent buffer that is written from its start on, byte by byte and piece by piece.
+// A lent buffer that is written piece by piece, each after the one before it.
 ghost use Rattle.std.specs.Prelude.{◌≡◌, ◌∷◌, [], replicate};
 ghost use Rattle.lent.specs.Appended.{RoomFor, Appended};
 
-// A lent buffer, and the place in it where the next byte goes.
+// A lent buffer, and the place in it after what was written.
 #[derive(Drop)]
 pub struct Writer<'a> {
     buffer: &'a mut [u8],

@@ -2,7 +2,7 @@
 use mathlib.Core.Path.{◌≡◌}
 use mathlib.Core.List.{[], ◌∷◌}
 use native.Mathlib.Omega.{arith}
-use Prim.Native.Nat.{◌+◌, ◌/◌, ◌%◌}
+use Prim.Native.Nat.{◌+◌, ◌%◌}
 use Rattle.ascii.proofs.Decimals.{decimal-small, decimal-large}
 use Rattle.lent.proofs.Appending.{appended_then, room_first, room_then}
 use Rattle.program_lines.proofs.+write_decimal.Goals as goal
@@ -15,18 +15,18 @@ write_decimal-requires t c =
 pub put-requires : goal.put-requires
 put-requires t c =
     elim c.if-n-ge10.branch [
-      then-n-ge10 w ↦ rw w.writer-is (room_then w.write_decimal.ensures (rw (decimal-large c.args.n w.if-n-ge10.true) at c.requires))
-    | else-n-ge10 w ↦
-        let small : c.args.n % 10 ≡ c.args.n = omega arith in
-        rw (w.writer-is, small) (rw (decimal-small c.args.n (omega arith)) at c.requires)
+      | then-n-ge10 w ↦ rw w.writer-is (room_then w.write_decimal.ensures (rw (decimal-large c.args.n w.if-n-ge10.true) at c.requires))
+      | else-n-ge10 w ↦
+          let small : c.args.n % 10 ≡ c.args.n = omega arith in
+          rw (w.writer-is, small) (rw (decimal-small c.args.n (omega arith)) at c.requires)
     ]
 
 pub returns : goal.returns
 returns t c =
     elim c.if-n-ge10.branch [
-      then-n-ge10 w ↦
-        rw (decimal-large c.args.n w.if-n-ge10.true) (appended_then w.write_decimal.ensures (rw w.writer-is at c.put.ensures))
-    | else-n-ge10 w ↦
-        let small : c.args.n % 10 ≡ c.args.n = omega arith in
-        rw (decimal-small c.args.n (omega arith)) (rw (w.writer-is, small) at c.put.ensures)
+      | then-n-ge10 w ↦
+          rw (decimal-large c.args.n w.if-n-ge10.true) (appended_then w.write_decimal.ensures (rw w.writer-is at c.put.ensures))
+      | else-n-ge10 w ↦
+          let small : c.args.n % 10 ≡ c.args.n = omega arith in
+          rw (decimal-small c.args.n (omega arith)) (rw (w.writer-is, small) at c.put.ensures)
     ]

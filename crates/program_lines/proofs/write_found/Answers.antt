@@ -1,11 +1,9 @@
 -- `program_lines::write_found` meets its contract: three parts, one after the other.
 use mathlib.Core.List.{◌++◌}
-use Prim.Native.Nat.{◌+◌, ◌≤◌}
 use native.Mathlib.Omega.{arith}
-use lib.ListN.{length, take}
+use lib.ListN.{take}
 use Rattle.std.proofs.Common.{rules}
-use Rattle.program_lines.specs.Lines.{header, position_lines, counts_line}
-use Rattle.lent.specs.Appended.{RoomFor}
+use Rattle.program_lines.specs.Lines.{position_lines, counts_line}
 use Rattle.lent.proofs.Appending.{appended_then, appended_to, room_from, room_first, room_then}
 use Rattle.program_lines.proofs.Lines.{found-parts}
 use Rattle.program_lines.proofs.write_found.Goals as goal

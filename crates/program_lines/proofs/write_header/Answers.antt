@@ -1,6 +1,5 @@
 -- `program_lines::write_header` meets its contract: four parts, one after the other.
-use mathlib.Core.List.{List, ◌++◌}
-use Prim.Native.Nat.{ℕ}
+use mathlib.Core.List.{◌++◌}
 use Rattle.ascii.specs.Codes.{ascii}
 use Rattle.ascii.specs.Decimal.{decimal}
 use Rattle.program_lines.specs.Lines.{number_line}
