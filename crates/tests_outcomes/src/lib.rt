@@ -6,8 +6,9 @@
 ghost use Rattle.std.specs.Prelude.{◌≡◌, ◌+◌, ◌≤◌, ◌<◌, length};
 ghost use Rattle.image_form.specs.Image.{low_first};
 ghost use Rattle.tests_outcomes.specs.Digests.{Digested, digest_step, list_bytes, field_bytes};
-ghost use Rattle.tests_outcomes.specs.Outcomes.{outcome_after, same_outcome};
+ghost use Rattle.tests_outcomes.specs.Outcomes.{outcome_after};
 
+use std::fmt;
 use tests_stream::read_number;
 
 const MODULUS: u64 = 72057594037927931;
@@ -24,10 +25,8 @@ pub fn digest_bytes(before: u64, bytes: &[u8]) -> u64
     ensures { Digested before bytes.now result }
 {
     let mut h = before;
-    let mut i: usize = 0;
-    while i < bytes.len() {
-        h = digest_byte(h, bytes[i]);
-        i += 1;
+    for byte in bytes {
+        h = digest_byte(h, *byte);
     }
     h
 }
@@ -39,11 +38,9 @@ pub fn digest_number(before: u64, number: u64, width: usize) -> u64
 {
     let mut h = before;
     let mut rest = number;
-    let mut left = width;
-    while 0 < left {
+    for place in 0..width {
         h = digest_byte(h, (rest % 256) as u8);
-        rest = rest / 256;
-        left -= 1;
+        rest /= 256;
     }
     h
 }
@@ -53,10 +50,8 @@ pub fn digest_list(before: u64, list: &[u32]) -> u64
     ensures { Digested before (list_bytes list.now) result }
 {
     let mut h = before;
-    let mut i: usize = 0;
-    while i < list.len() {
-        h = digest_number(h, list[i] as u64, 4);
-        i += 1;
+    for number in list {
+        h = digest_number(h, *number as u64, 4);
     }
     h
 }
@@ -85,12 +80,18 @@ pub fn digest_fields(
 }
 
 // What a call came to: document 01's number, 0 where it was accepted, two numbers that the call gives, and the digest of what it left.
-#[derive(Clone, Copy)]
+#[derive(Clone, Copy, Debug, PartialEq, Eq)]
 pub struct Outcome {
     pub number: u64,
     pub a: u64,
     pub b: u64,
     pub digest: u64,
+}
+
+impl fmt::Display for Outcome {
+    fn fmt<W: fmt::Write>(&self, f: &mut fmt::Formatter<W>) -> fmt::Result {
+        write!(f, "{} {} {} {}", self.number, self.a, self.b, self.digest)
+    }
 }
 
 // An outcome that the stream holds.
@@ -130,78 +131,20 @@ pub fn read_outcome(stream: &[u8], at: usize, stored: bool) -> StoredOutcome
     }
 }
 
-// All four numbers are the same.
-pub fn agree(got: Outcome, expected: Outcome) -> bool
-    ensures { result ≡ same_outcome got expected }
-{
-    if got.number != expected.number {
-        return false;
-    }
-    if got.a != expected.a {
-        return false;
-    }
-    if got.b != expected.b {
-        return false;
-    }
-    got.digest == expected.digest
-}
-
-// ---- lines, on standard output. A write that fails is not reported, and what follows is tried all the same.
-
-// Prints a byte of a line: `#` stands for the next of the numbers. Says how many of them are printed then.
-fn print_byte<R: Print>(rt: &R, line: &[u8], i: usize, numbers: &[u64], next: usize) -> usize
-    requires { (i < length line.now) × (next ≤ i) }
-    ensures { result ≤ next + 1 }
-{
-    if line[i] != b'#' {
-        drop(rt.write_all(&line[i..i + 1]));
-        return next;
-    }
-    if next < numbers.len() {
-        drop(rt.print(numbers[next]));
-    }
-    next + 1
-}
-
-fn print_line<R: Print>(rt: &R, line: &[u8], numbers: &[u64]) {
-    let mut next: usize = 0;
-    let mut i: usize = 0;
-    while i < line.len() {
-        next = print_byte(rt, line, i, numbers, next);
-        i += 1;
-    }
-}
+// ---- lines, on standard output. A write that fails is not reported.
 
 // The line of a case that came to something else than is stored.
 pub fn print_difference<R: Print>(rt: &R, case: usize, op: u8, got: Outcome, expected: Outcome) {
-    let numbers = [
-        case as u64,
-        op as u64,
-        got.number,
-        got.a,
-        got.b,
-        got.digest,
-        expected.number,
-        expected.a,
-        expected.b,
-        expected.digest,
-    ];
-    print_line(
-        rt,
-        b"case # op #: got # # # #, expected # # # #\n",
-        &numbers,
-    );
+    drop(println!(rt; "case {case} op {op}: got {got}, expected {expected}"));
 }
 
 pub fn print_malformed<R: Print>(rt: &R, at: usize) {
-    let numbers = [at as u64];
-    print_line(rt, b"malformed at byte #\n", &numbers);
+    drop(println!(rt; "malformed at byte {at}"));
 }
 
 pub fn print_tally<R: Print>(rt: &R, cases: usize, differ: usize)
     requires { differ ≤ cases }
 {
     let agreed = cases - differ;
-    let numbers = [cases as u64, agreed as u64, differ as u64];
-    print_line(rt, b"# cases, # agreed, # differ\n", &numbers);
+    drop(println!(rt; "{cases} cases, {agreed} agreed, {differ} differ"));
 }

@@ -7,11 +7,8 @@ ghost use Rattle.std.specs.Prelude.{◌≡◌, ◌+◌, ◌^◌, ◌≤◌, ◌<
 ghost use Rattle.vectors.specs.Runs.{CaseRun, tallied, TallyOf};
 
 use search::Search;
-use std::io::Read;
 use tests_calls::make_call;
-use tests_outcomes::{
-    Outcome, agree, print_difference, print_malformed, print_tally, read_outcome,
-};
+use tests_outcomes::{Outcome, print_difference, print_malformed, print_tally, read_outcome};
 use tests_stream::cases::{HAND, read_case};
 use tests_stream::{byte_room, fill_list, list_room};
 
@@ -71,7 +68,7 @@ fn compare<R: Print>(rt: &R, tally: Tally, op: u8, got: Outcome, expected: Outco
         return tally;
     }
     let cases = tally.cases + 1;
-    if agree(got, expected) {
+    if got == expected {
         return Tally {
             cases,
             differ: tally.differ,
@@ -114,32 +111,16 @@ fn run<R: Print>(rt: &R, stream: &[u8]) -> Tally
     tally
 }
 
-// Room for the longest stream. Its length comes by a law, since the prover would count the bytes one by one.
+// Room for the longest stream.
 fn stream_room() -> [u8; LONGEST_STREAM]
     ensures { (result ≡ replicate 1048576 0) × (1048576 ≡ length result) }
 {
-    [0; LONGEST_STREAM]
-}
-
-// Reads until the buffer is full, the input ends or a read fails; says how many bytes it put at the buffer's start.
-fn read_full<R: Read>(reader: &mut R, buffer: &mut [u8]) -> usize
-    ensures within { result ≤ length buffer.new }
-    ensures same_length { length buffer.new ≡ length buffer.old }
-{
-    let mut read = 0;
-    while read < buffer.len() {
-        match reader.read(&mut buffer[read..]) {
-            Ok(0) => break,
-            Ok(n) => read += n,
-            Err(_) => break,
-        }
-    }
-    read
+    lent::room(0)
 }
 
 fn main(rt: HostRuntime) {
     let mut stream = stream_room();
-    let read = read_full(&mut rt.stdin(), &mut stream);
+    let read = lent::read_full(&mut rt.stdin(), &mut stream);
     let tally = run(&rt, &stream[..read]);
     print_tally(&rt, tally.cases, tally.differ);
 }

@@ -3,9 +3,9 @@ use native.Mathlib.Omega.{arith}
 use Rattle.tests_outcomes.proofs.Digesting.{digesting-at, digesting-bytes}
 use Rattle.tests_outcomes.proofs.digest_bytes.Goals as goal
 
-pub loop-i-preserved : goal.loop-i-preserved
-loop-i-preserved c =
-    digesting-at c.args.bytes.now c.loop-i.i (omega arith) c.loop-i.invariant c.digest_byte-h.ensures
+pub loop-byte-preserved : goal.loop-byte-preserved
+loop-byte-preserved c =
+    digesting-at c.args.bytes.now c.loop-byte.byte-index (omega arith) c.loop-byte.invariant c.digest_byte-h.ensures
 
 pub returns : goal.returns
-returns c = digesting-bytes c.args.bytes.now c.loop-i.i (omega arith) c.loop-i.invariant
+returns c = digesting-bytes c.args.bytes.now c.loop-byte.byte-index (omega arith) c.loop-byte.invariant

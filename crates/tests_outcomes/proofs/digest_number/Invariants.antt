@@ -1,9 +1,7 @@
+use Prim.Native.Nat.{◌-◌}
 use Rattle.image_form.specs.Image.{low_first}
 use Rattle.tests_outcomes.proofs.Digesting.{Digesting}
 use Rattle.tests_outcomes.proofs.digest_number.Given as goal
 
-abbrev pub invariant-loop-left : goal.invariant-loop-left
-invariant-loop-left l = Digesting l.before (low_first l.width l.number) (low_first l.left l.rest) l.h
-
-abbrev pub decreases-loop-left : goal.decreases-loop-left
-decreases-loop-left l = l.left
+abbrev pub invariant-loop-place : goal.invariant-loop-place
+invariant-loop-place l = Digesting l.before (low_first l.width l.number) (low_first (l.width - l.place) l.rest) l.h
