@@ -1,3 +1,3 @@
-mod Members
+mod Lost
 pub mod Refusing
 pub mod Counting

@@ -2,95 +2,79 @@
 
 #![tactic(auto)]
 
-ghost use Rattle.std.specs.Prelude.{◌≡◌, ◌≤◌, length, replicate};
-ghost use Rattle.jumbled.specs.Refusals.{given, is_method, exact_only, method_tests, pattern_tests};
+ghost use Rattle.std.specs.Prelude.{◌≡◌, ◌≤◌, length, IfOk};
+ghost use Rattle.jumbled.specs.Refusals.{given, exact_only, method_tests, pattern_tests};
 ghost use Rattle.table_parikh.specs.Table.{parikh};
-ghost use Rattle.answers.specs.Numbers.{admission_number};
-ghost use Rattle.answers.specs.declared.Admission.TheVariants.{Refused};
+ghost use Rattle.methods.specs.Numbers.{method_number};
+ghost use Rattle.answers.specs.Numbers.{answer_number};
 ghost use Rattle.admit_pattern.specs.Admits.{Admits};
 
-use answers::{Admission, Refusal};
+use answers::Refusal;
+use methods::Method;
 use table_parikh::LOST_HOUR;
 
 // The longest pattern.
 pub const LONGEST_PATTERN: usize = 64;
 
-// The method is one of the six.
-pub fn is_method(method: u8) -> bool
-    ensures { result ≡ is_method method }
-{
-    match method {
-        1 | 2 | 3 | 4 | 5 | 6 => true,
-        _ => false,
-    }
-}
-
 // The method takes no tolerance but 0.
-pub fn exact_only(method: u8) -> bool
-    ensures { result ≡ exact_only method }
+#[tactic(auto, unfolding(jumbled::specs::Refusals::exact_only))]
+pub fn exact_only(method: Method) -> bool
+    ensures { result ≡ exact_only (method_number method) }
 {
     match method {
-        2 | 3 | 5 | 6 => true,
-        _ => false,
+        Method::Bam | Method::Bam2 | Method::Hcam | Method::Ebl => true,
+        Method::Count | Method::Abam => false,
     }
 }
 
-// Of a method for a pattern and a tolerance that are right in themselves: 3 to 5, the first that applies. Counts says how often the
+// Of a method's number for a pattern and a tolerance that are right in themselves: 3 to 5, the first that applies. Counts says how often the
 // pattern has each byte.
-pub fn admit_method(pattern: &[u8], counts: &[u8; 256], k: u8, method: u8) -> Admission
+#[tactic(auto, unfolding(jumbled::specs::Refusals::given, jumbled::specs::Refusals::method_tests, jumbled::specs::Refusals::known_tests, jumbled::specs::Refusals::exact_tests, jumbled::specs::Refusals::width_tests, jumbled::specs::Refusals::is_method))]
+pub fn admit_method(
+    pattern: &[u8],
+    counts: &[u8; 256],
+    k: u8,
+    method: u8,
+) -> Result<Method, Refusal>
     requires { (length pattern.now ≤ 64) × (counts.now ≡ parikh pattern.now) × (k ≤ 64) }
-    ensures { admission_number result ≡ given (method_tests pattern.now k method) }
+    ensures number { answer_number result ≡ given (method_tests pattern.now k method) }
+    ensures method { IfOk result (λ taken. method_number taken ≡ method) }
 {
-    if !is_method(method) {
-        return Admission::Refused(Refusal::UnknownMethod);
-    }
-    if 0 < k && exact_only(method) {
-        return Admission::Refused(Refusal::ToleranceNotTaken);
+    let Ok(taken) = Method::try_from(method) else {
+        return Err(Refusal::UnknownMethod);
+    };
+    if 0 < k && exact_only(taken) {
+        return Err(Refusal::ToleranceNotTaken);
     }
     if 64 < table_widths::field_bits(pattern, counts, k as usize, method) {
-        return Admission::Refused(Refusal::FieldsTooWide);
+        return Err(Refusal::FieldsTooWide);
     }
-    Admission::Accepted
+    Ok(taken)
 }
 
-// Whether a pattern is taken, and if it is, how often it has each byte: a call counts it once. Of one that is not, the counts are 0.
-#[derive(Clone, Copy)]
-pub struct AdmittedPattern {
-    pub admission: Admission,
+// What a call goes by whose pattern, tolerance and method are taken: how often the pattern has each byte, which is counted once, and the method.
+#[derive(Clone, Copy, Debug, PartialEq, Eq)]
+pub struct Admitted {
     pub counts: [u8; 256],
-}
-
-// A pattern that is not taken, and is not counted.
-pub fn refused_pattern(refusal: Refusal) -> AdmittedPattern
-    ensures { (result.admission ≡ Refused refusal) × (result.counts ≡ replicate 256 0) }
-{
-    AdmittedPattern {
-        admission: Admission::Refused(refusal),
-        counts: [0; 256],
-    }
+    pub method: Method,
 }
 
 // Of a pattern, a tolerance and a method: 1, 13, 2 to 5, the first that applies.
-pub fn admit(pattern: &[u8], k: u8, method: u8) -> AdmittedPattern
-    ensures { Admits pattern.now (given (pattern_tests pattern.now k method)) result }
+#[tactic(auto, using(crate::proofs::Lost::lost_counted, crate::proofs::Lost::none_lost), unfolding(jumbled::specs::Refusals::given, jumbled::specs::Refusals::pattern_tests, jumbled::specs::Refusals::length_tests, jumbled::specs::Refusals::lost_tests, jumbled::specs::Refusals::tolerance_tests))]
+pub fn admit(pattern: &[u8], k: u8, method: u8) -> Result<Admitted, Refusal>
+    ensures { Admits pattern.now method (given (pattern_tests pattern.now k method)) result }
 {
     let m = pattern.len();
-    if m == 0 {
-        return refused_pattern(Refusal::PatternLength);
-    }
-    if LONGEST_PATTERN < m {
-        return refused_pattern(Refusal::PatternLength);
+    if m == 0 || LONGEST_PATTERN < m {
+        return Err(Refusal::PatternLength);
     }
     let counts = table_parikh::counts(pattern);
     if 0 < counts[LOST_HOUR as usize] {
-        return refused_pattern(Refusal::LostHourInPattern);
+        return Err(Refusal::LostHourInPattern);
     }
     if m <= k as usize {
-        return refused_pattern(Refusal::ToleranceTooLarge);
+        return Err(Refusal::ToleranceTooLarge);
     }
-    let admission = admit_method(pattern, &counts, k, method);
-    if let Admission::Refused(refusal) = admission {
-        return refused_pattern(refusal);
-    }
-    AdmittedPattern { admission, counts }
+    let method = admit_method(pattern, &counts, k, method)?;
+    Ok(Admitted { counts, method })
 }

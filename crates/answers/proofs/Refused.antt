@@ -56,9 +56,8 @@ on-accepted number accepted refused e = rw (eq-eqb number 0 e) refl
 -- ---- tests after other tests: the first number, or the later one where nothing is refused before
 
 module _ (first later : ℕ) where
-  pub still-refused : {A : Type 0} (answer : Result A Refusal) (refusal : Refusal) → answer ≡ Err refusal
-      → answer_number answer ≡ first → answer_number answer ≡ unless_refused first later first
-  still-refused answer refusal refused e = e ∙ on-refusal refusal first later first (ap answer_number (sym refused) ∙ e)
+  pub still-refused : (refusal : Refusal) → number_of refusal ≡ first → number_of refusal ≡ unless_refused first later first
+  still-refused refusal e = e ∙ on-refusal refusal first later first e
 
   pub tested-later : first ≡ 0 → later ≡ unless_refused first later first
   tested-later none = on-accepted first later first none
