@@ -1,6 +1,5 @@
 -- A forward method over a tail followed by a chunk: the windows of the seam, its first bytes taken before, and then those of the chunk.
 use mathlib.Core.Path.{◌≡◌, sym, ap, ◌∙◌}
-use mathlib.Core.Bool.{Bool, true, false, cond}
 use mathlib.Core.List.{List}
 use Prim.Native.Nat.{ℕ, ◌+◌, ◌-◌, ◌^◌, ◌≤◌, ◌<◌}
 use native.Mathlib.Nat.{le_refl}
@@ -8,8 +7,6 @@ use native.Mathlib.Omega.{arith}
 use lib.ListN.{length, take, drop}
 use lib.Seq.{drop-append_seam, take-take}
 use Rattle.jumbled.specs.Match.{window_prefix}
-use Rattle.jumbled.specs.Steps.{count_judged, verified, hcam_judged}
-use Rattle.jumbled.proofs.Positions.{hcam-verification}
 use Rattle.jumbled.specs.Scan.{Result, Judged, forward, judges, driven_into, through}
 use Rattle.jumbled.proofs.Cuts.{◌then◌, moved, forward-within, forward-count, forward-most, through-between}
 use Rattle.lent.specs.Found.{Found}
@@ -23,19 +20,6 @@ use Rattle.chunk_seam.proofs.Full.{into-joined}
 use Rattle.loop_forward.specs.Windows.{covered, Ended}
 use Rattle.chunk_forward.specs.Starting.{Startable, primed}
 use Rattle.chunk_forward.proofs.Joins.{forward-joined, forward-none}
-
--- counting verifies nothing
-pub count-few : (P : List ℕ) (k : ℕ) (W : List ℕ) → (count_judged P k W).verification ≤ 64
-unfolding count_judged
-count-few P k W = omega arith
-
--- a verification takes the window's bytes
-pub hcam-few : (P : List ℕ) {m : ℕ} → length P ≡ m → m ≤ 64 → (W : List ℕ) → (hcam_judged P W).verification ≤ 64
-hcam-few P sized short W = rw (hcam-verification P W) (case (verified P W))
-  where
-    case : (t : Bool) → cond t (length P) 0 ≤ 64
-    case true = omega arith
-    case false = omega arith
 
 -- what the windows that start in the tail yield
 abbrev pub seamed : (List ℕ → Judged) → ℕ → List ℕ → Split → Result

@@ -1,16 +1,18 @@
 -- What a forward method asks of a tail followed by a chunk, and what it asks and yields where it starts, in the seam.
 use Rattle.std.specs.Prelude.{◌≡◌, List, ℕ, ◌+◌, ◌-◌, ◌≤◌, length}
-use Rattle.jumbled.specs.Scan.{Result}
+use Rattle.jumbled.specs.Match.{window_prefix}
+use Rattle.jumbled.specs.Scan.{Result, Judged, forward}
 use Rattle.table_parikh.specs.Table.{parikh}
 use Rattle.lent.specs.declared.Range.{Range}
-use Rattle.lent.specs.Loops.{Fitting}
-use Rattle.chunk_seam.specs.declared.Split.{Split}
-use Rattle.chunk_seam.specs.Joined.{Prepared}
+use Rattle.lent.specs.Loops.{Fitting, Listed}
+use Rattle.chunk_seam.specs.declared.Joined.{Joined}
+use Rattle.chunk_seam.specs.Joined.{PreparedIn}
+use Rattle.loop_forward.specs.declared.Slid.{Slid}
 
 -- The pattern's counts, and the tail and the chunk made ready for its search
-pub record ForwardReady (P counts seam chunk : List ℕ) (split : Split) (list : List ℕ) : Type 0 where
+pub record ForwardReady (P counts : List ℕ) (j : Joined) (list : List ℕ) : Type 0 where
   pub pattern-counts : counts ≡ parikh P
-  pub prepared : Prepared (length P) seam chunk split list
+  pub prepared : PreparedIn (length P) j list
 
 -- ---- the forward methods' windows in the seam
 
@@ -24,3 +26,8 @@ pub record Startable (m : ℕ) (T : List ℕ) (range : Range) (list : List ℕ) 
   pub from_first : range.first ≡ 0
   pub enough : m - 1 ≤ length T
   pub places : range.at + (range.end - range.first) ≤ length list
+
+-- The windows of a range from the first one on, m - 1 inspections made before
+pub record SeamSlid {S : Type 0} (keeps : List ℕ → S → Type 0) (judged : List ℕ → Judged) (m : ℕ) (T : List ℕ) (range : Range) (before after : List ℕ) (r : Slid S) : Type 0 where
+  pub listed : Listed (primed (m - 1) (forward judged m T 0 range.«end» 1)) range before after r.at r.inspections
+  pub kept : keeps (window_prefix m T range.«end») r.state

@@ -7,7 +7,7 @@ use native.Mathlib.Omega.{arith}
 use borrow.Author.Tests.{le-leb, lt-leb}
 use Rattle.jumbled.specs.Match.{excess, matches}
 use Rattle.jumbled.specs.Steps.{count_judged}
-use Rattle.loop_forward.specs.Counting.{Counting}
+use Rattle.loop_count.specs.Counting.{Counting}
 
 module _ {P W counts : List ℕ} {window_excess : ℕ} (state : Counting P W counts window_excess) {k : ℕ} where
   pub judged-right : window_excess ≤ k → (count_judged P k W).listed ≡ true

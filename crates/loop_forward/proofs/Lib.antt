@@ -1,3 +1,1 @@
 pub mod Progress
-pub mod Counting
-pub mod Hashing

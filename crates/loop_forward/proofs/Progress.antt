@@ -3,7 +3,7 @@ use mathlib.Core.Path.{◌≡◌, refl, sym, ap, ◌∙◌}
 use mathlib.Core.Bool.{Bool, true, false}
 use mathlib.Core.List.{List, [], ◌∷◌, ◌++◌}
 use mathlib.Core.Logic.{◌⊎◌, ⊎_elim}
-use Prim.Native.Nat.{ℕ, suc, ◌+◌, ◌-◌, ◌*◌, ◌^◌, ◌≤◌, ◌<◌}
+use Prim.Native.Nat.{ℕ, suc, ◌+◌, ◌-◌, ◌*◌, ◌≤◌, ◌<◌}
 use native.Mathlib.Nat.{sub_self}
 use native.Mathlib.Omega.{arith}
 use lib.ListN.{length, get_or, drop, set, length-take, length-set}
@@ -106,9 +106,6 @@ module _ {judged : List ℕ → Judged} {m : ℕ} {T : List ℕ} {range : Range}
   pub first_byte : get_or T s 0 < 256
   first_byte = turn.bytes.below s
 
-  pub both_bytes : (get_or T (s + m - 1) 0 < 256) × (get_or T s 0 < 256)
-  both_bytes = (last_byte, first_byte)
-
   pub by_last : window m T s ≡ window_prefix m T s ++ (get_or T (s + m - 1) 0 ∷ [])
   by_last = window-last m T s turn.fitting.some whole
 
@@ -124,15 +121,9 @@ module _ {judged : List ℕ → Judged} {m : ℕ} {T : List ℕ} {range : Range}
   pub prefix-short : length (window_prefix m T s) < 64
   prefix-short = omega (arith, turn.fitting.some, turn.fitting.short, length-take (m - 1) (drop s T))
 
-  -- there is a place, a position is a number of 32 bits, and the inspections can be counted
+  -- there is a place
   pub has_room : at < length before
   has_room = omega (arith, turn.place, turn.so_far.same_length)
-
-  pub has-number : range.base + s < 2 ^ 32
-  has-number = omega (arith, turn.fitting.numbered)
-
-  pub has-inspections : inspections + 65 < 2 ^ 64
-  has-inspections = omega (arith, turn.so_far.bounded, turn.fitting.numbered)
 
   next : (t : Bool) → (judged (window m T s)).listed ≡ t
       → result_before judged m T range (s + 1) ≡ result_before judged m T range s then share t s (1 + (judged (window m T s)).verification)

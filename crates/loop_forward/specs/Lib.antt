@@ -1,3 +1,2 @@
 pub mod Windows
-pub mod Counting
-pub mod Hashing
+pub mod Sliding

@@ -1,74 +1,59 @@
-// What the loops of the forward methods, 1 and 5, have in common, and what they begin with (document 01, "The five methods"): a window slides over
-// one lent slice. Before the window at s a loop has taken the window's bytes but the last, and its state is about these. At s it takes the last
-// byte, one inspection, judges the window, and lets the byte at s leave. So a search can go on in another slice with the state that it has, and
-// no byte is taken twice.
+// What the forward methods, 1 and 5, have in common (document 01, "The five methods"): a window slides over one lent slice. Before the window at s
+// a loop has taken the window's bytes but the last, and its state is about these. At s it takes the last byte, one inspection, judges the window,
+// and lets the byte at s leave. So a search can go on in another slice with the state that it has, and no byte is taken twice.
 
 #![tactic(auto)]
 
-ghost use Rattle.loop_forward.specs.Counting.{CountStartable, CountStarts};
-ghost use Rattle.loop_forward.specs.Hashing.{HcamStartable, HcamStarts};
+ghost use Rattle.std.specs.Prelude.{ℕ, List, ◌-◌, ◌≤◌, length};
+ghost use Rattle.jumbled.specs.Scan.{Judged};
+ghost use Rattle.loop_forward.specs.Sliding.{Begun, Slidable, SlidOver};
 
-// How often each byte occurs among some bytes, and their excess over the pattern.
-#[derive(Drop)]
-pub struct Sliding {
-    pub counts: [u8; 256],
-    pub excess: usize,
-}
+use lent::Range;
 
 // The state before a text's first window, and the inspections that it took.
-#[derive(Drop)]
-pub struct CountStart {
-    pub sliding: Sliding,
+#[derive(Clone, Copy, Debug, PartialEq, Eq)]
+pub struct Started<S> {
+    pub state: S,
     pub inspections: usize,
 }
 
-// The sum of some bytes' heap values, and how many of them are lost hours (document 02, T-07).
-#[derive(Drop)]
-pub struct Summed {
-    pub sum: u64,
-    pub lost: usize,
-}
-
-// Both before a text's first window, and the inspections that it took.
-#[derive(Drop)]
-pub struct HcamStart {
-    pub summed: Summed,
+// Where a search stands: the state at the next window start, the list's next place and the inspections.
+#[derive(Clone, Copy, Debug, PartialEq, Eq)]
+pub struct Slid<S> {
+    pub state: S,
+    pub next: usize,
+    pub at: usize,
     pub inspections: usize,
 }
 
-// The bytes of the first window but its last are taken.
-pub fn count_start(m: usize, allowed: &[u8; 256], text: &[u8]) -> CountStart
-    requires { CountStartable m allowed.now text.now }
-    ensures { CountStarts m allowed.now text.now result }
-{
-    let mut counts = [0u8; 256];
-    let mut excess = 0;
-    let mut inspections = 0;
-    for i in 0..m - 1 {
-        let entering = text[i] as usize;
-        inspections += 1;
-        // What the pattern allows of this byte may be used up.
-        excess += (counts[entering] >= allowed[entering]) as usize;
-        counts[entering] += 1;
-    }
-    CountStart {
-        sliding: Sliding { counts, excess },
-        inspections,
-    }
-}
+// A forward method, with what it has made of its pattern.
+pub trait Forward {
+    // What is known of the bytes that were taken of a window.
+    type State: Copy;
 
-// The bytes of the first window but its last are taken.
-pub fn hcam_start(m: usize, values: &[u64; 256], text: &[u8]) -> HcamStart
-    requires { HcamStartable m values.now text.now }
-    ensures { HcamStarts m values.now text.now result }
-{
-    let last = m - 1;
-    let entering = &text[..last];
-    HcamStart {
-        summed: Summed {
-            sum: table_heap::sum_of(values, entering),
-            lost: table_parikh::lost_hours(entering),
-        },
-        inspections: entering.len(),
-    }
+    ghost pattern: { Self → List ℕ };
+
+    ghost judged: { Self → List ℕ → Judged };
+
+    // A state is that of these bytes.
+    ghost keeps: { Self → List ℕ → Self.State → Type 0 };
+
+    // The bytes of the first window but its last are taken.
+    fn start(&self, text: &[u8]) -> Started<Self::State>
+        requires { length (pattern self.now) - 1 ≤ length text.now }
+        ensures { Begun (keeps self.now) (length (pattern self.now)) text.now result };
+
+    // The range's windows are judged, from the state at the first one on. The search ends with the window that takes the list's last place.
+    fn slide(
+        &self,
+        text: &[u8],
+        state: Self::State,
+        range: Range,
+        list: &mut [u32],
+    ) -> Slid<Self::State>
+        requires { Slidable (keeps self.now) (length (pattern self.now)) text.now state range }
+        ensures { SlidOver (keeps self.now) (judged self.now) (length (pattern self.now)) text.now range list.old list.new result };
+
+    // No verification takes more than a window's bytes.
+    ghost verifies: { (method : Self) (W : List ℕ) → (judged method W).verification ≤ 64 };
 }

@@ -7,7 +7,7 @@ use Rattle.table_parikh.specs.Table.{allowances, within_counts}
 use Rattle.table_parikh.proofs.Excess.{within-matches}
 use Rattle.table_heap.specs.declared.Target.{Target}
 use Rattle.table_heap.specs.Table.{HeapTabled}
-use Rattle.loop_forward.specs.Hashing.{Summing}
+use Rattle.loop_hcam.specs.Hashing.{Summing}
 use Rattle.loop_hcam.specs.declared.Finding.{Finding}
 use Rattle.loop_hcam.specs.Hashing.{Finds}
 

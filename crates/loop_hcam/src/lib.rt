@@ -4,34 +4,30 @@
 #![tactic(auto)]
 
 ghost use Rattle.std.specs.Prelude.{◌≡◌, ◌≤◌, ◌||◌, length, nat_lt};
-ghost use Rattle.loop_hcam.specs.Hashing.{Finds, HcamSearchable, HcamSearches};
+ghost use Rattle.jumbled.specs.Steps.{hcam_judged};
+ghost use Rattle.loop_hcam.specs.Hashing.{HcamTabled, Summing, Finds, verification-small};
 
 use lent::Range;
-use loop_forward::Summed;
+use loop_forward::{Forward, Slid, Started};
 use table_heap::Target;
 use table_parikh::LOST_HOUR;
 
-// Where the search stands: the sum and the lost hours at the next window start, the list's next place and the inspections.
-#[derive(Drop)]
-pub struct Hashed {
-    pub summed: Summed,
-    pub next: usize,
-    pub at: usize,
-    pub inspections: usize,
+// The sum of some bytes' heap values, and how many of them are lost hours (document 02, T-07).
+#[derive(Clone, Copy, Debug, PartialEq, Eq)]
+pub struct Summed {
+    pub sum: u64,
+    pub lost: usize,
 }
 
 // Whether there is anything to find of a window: most windows have another sum than the pattern and no lost hour.
 fn may_match(lost: usize, candidate: bool) -> bool
     ensures { result ≡ (nat_lt 0 lost || candidate) }
 {
-    if 0 < lost {
-        return true;
-    }
-    candidate
+    0 < lost || candidate
 }
 
 // What is found of a window: whether it is listed, and the inspections that its verification adds.
-#[derive(Drop)]
+#[derive(Clone, Copy, Debug, PartialEq, Eq)]
 pub struct Finding {
     pub listed: bool,
     pub verification: usize,
@@ -43,13 +39,11 @@ fn judge(allowed: &[u8; 256], lost: usize, exact: bool, window: &[u8]) -> Findin
     requires { length window.now ≤ 64 }
     ensures { Finds allowed.now lost exact window.now result }
 {
-    if exact {
-        if lost == 0 {
-            return Finding {
-                listed: true,
-                verification: 0,
-            };
-        }
+    if exact && lost == 0 {
+        return Finding {
+            listed: true,
+            verification: 0,
+        };
     }
     Finding {
         listed: table_parikh::within(allowed, window),
@@ -57,55 +51,75 @@ fn judge(allowed: &[u8; 256], lost: usize, exact: bool, window: &[u8]) -> Findin
     }
 }
 
-// A window is a candidate where its sum is the target's. The search ends with the window that takes the list's last place.
-pub fn hcam_windows(
-    m: usize,
-    allowed: &[u8; 256],
-    values: &[u64; 256],
-    target: Target,
-    text: &[u8],
-    summed: Summed,
-    range: Range,
-    list: &mut [u32],
-) -> Hashed
-    requires { HcamSearchable m allowed.now values.now target text.now summed range }
-    ensures { HcamSearches m allowed.now values.now target text.now summed range
-        list.old list.new result }
-{
-    let mut sum = summed.sum;
-    let mut lost = summed.lost;
-    let mut s = range.first;
-    let mut at = range.at;
-    let mut inspections = 0;
-    let mut end = s;
-    if at < list.len() {
-        end = range.end;
+// A pattern with its allowances, its heap values and what a candidate's sum is.
+#[derive(Drop)]
+pub struct Hcam<'a> {
+    pub pattern: &'a [u8],
+    pub allowed: &'a [u8; 256],
+    pub values: &'a [u64; 256],
+    pub target: Target,
+    pub ghost tabled: { HcamTabled pattern.now allowed.now values.now target },
+}
+
+impl Forward for Hcam<'_> {
+    type State = Summed;
+
+    ghost pattern = { λ method. method.pattern.now };
+
+    ghost judged = { λ method. hcam_judged method.pattern.now };
+
+    ghost keeps = { λ method. Summing method.pattern.now };
+
+    ghost verifies = { λ method. verification-small method.pattern.now method.tabled.short };
+
+    fn start(&self, text: &[u8]) -> Started<Summed> {
+        let taken = &text[..self.pattern.len() - 1];
+        let summed = Summed {
+            sum: table_heap::sum_of(self.values, taken),
+            lost: table_parikh::lost_hours(taken),
+        };
+        Started {
+            state: summed,
+            inspections: taken.len(),
+        }
     }
-    while s < end {
-        let entering = text[s + m - 1];
-        inspections += 1;
-        sum = std::num::wrapping_add_u64(sum, values[entering as usize]);
-        lost += (entering == LOST_HOUR) as usize;
-        if may_match(lost, sum == target.sum) {
-            let finding = judge(allowed, lost, target.exact, &text[s..s + m]);
-            inspections += finding.verification;
-            if finding.listed {
-                list[at] = (range.base + s) as u32;
-                at += 1;
-                if at == list.len() {
-                    end = s + 1; // the last place is taken
+
+    // A window is a candidate where its sum is the target's.
+    fn slide(&self, text: &[u8], state: Summed, range: Range, list: &mut [u32]) -> Slid<Summed> {
+        let m = self.pattern.len();
+        let values = self.values;
+        let target = self.target;
+        let mut sum = state.sum;
+        let mut lost = state.lost;
+        let mut at = range.at;
+        let mut inspections = 0;
+        let mut next = range.end;
+        for s in range.first..range.end {
+            if list.len() <= at {
+                next = s; // no place is left
+                break;
+            }
+            let entering = text[s + m - 1];
+            inspections += 1;
+            sum = std::num::wrapping_add_u64(sum, values[entering as usize]);
+            lost += (entering == LOST_HOUR) as usize;
+            if may_match(lost, sum == target.sum) {
+                let finding = judge(self.allowed, lost, target.exact, &text[s..s + m]);
+                inspections += finding.verification;
+                if finding.listed {
+                    list[at] = (range.base + s) as u32;
+                    at += 1;
                 }
             }
+            let leaving = text[s];
+            sum = std::num::wrapping_sub_u64(sum, values[leaving as usize]);
+            lost -= (leaving == LOST_HOUR) as usize;
         }
-        let leaving = text[s];
-        sum = std::num::wrapping_sub_u64(sum, values[leaving as usize]);
-        lost -= (leaving == LOST_HOUR) as usize;
-        s += 1;
-    }
-    Hashed {
-        summed: Summed { sum, lost },
-        next: s,
-        at,
-        inspections,
+        Slid {
+            state: Summed { sum, lost }, // at the next window start
+            next,
+            at,
+            inspections,
+        }
     }
 }

@@ -12,7 +12,7 @@ use Rattle.jumbled.proofs.Counts.{cc-length}
 use Rattle.table_parikh.specs.Table.{tabulate}
 use Rattle.table_parikh.proofs.Lost.{lost-snoc, lost-cons}
 use Rattle.table_heap.proofs.Sums.{sum_more, sum_less}
-use Rattle.loop_forward.specs.Hashing.{Summing}
+use Rattle.loop_hcam.specs.Hashing.{Summing}
 
 -- no more of the bytes are lost hours than there are
 pub lost-few : {P U : List ℕ} {sum lost : ℕ} → Summing P U (record { sum = sum; lost = lost }) → lost ≤ length U

@@ -15,7 +15,7 @@ use Rattle.table_parikh.proofs.Tables.{tabulate-ext, tabulate-set}
 use Rattle.table_parikh.proofs.Parikh.{get_or-parikh, parikh-nil, parikh-snoc}
 use Rattle.table_parikh.proofs.Excess.{spent}
 use Rattle.table_parikh.proofs.Lost.{byte-bit, byte_le}
-use Rattle.loop_forward.specs.Counting.{Counting}
+use Rattle.loop_count.specs.Counting.{Counting}
 
 -- the first byte leaves
 parikh-less : (U : List ℕ) (b : ℕ) → b < 256 → set (parikh (b ∷ U)) b (get_or (parikh (b ∷ U)) b 0 - 1) ≡ parikh U

@@ -1,6 +1,5 @@
-use Rattle.std.proofs.Common.{◌≡◌, ℕ, ◌+◌, ◌-◌, ◌%◌, ◌^◌, ◌<◌, ◌≤◌, Bool, true, false, cond, ◌||◌, eqb, ltb, ◌⊎◌, List, length, get_or, take, drop, set, sym, ◌∙◌, inl, inr, ⊎_elim, arith}
+use Rattle.std.proofs.Common.{◌≡◌, refl, ℕ, ◌+◌, ◌-◌, ◌%◌, ◌^◌, ◌<◌, ◌≤◌, Bool, true, false, cond, ◌||◌, eqb, ltb, List, length, get_or, take, drop, set, sym, ◌∙◌, arith}
 use mir.Val.{bool_byte}
-use Rattle.loop_forward.specs.declared.Summed.{Summed}
 use Rattle.jumbled.specs.Match.{Bytes, lost_hour, window, window_prefix}
 use Rattle.jumbled.proofs.Windows.{window-part}
 use Rattle.jumbled.specs.Steps.{verified, hcam_judged}
@@ -9,13 +8,13 @@ use Rattle.table_parikh.specs.Table.{allowances}
 use Rattle.table_heap.specs.declared.Target.{Target}
 use Rattle.table_heap.specs.Table.{HeapTabled}
 use Rattle.lent.specs.declared.Range.{Range}
+use Rattle.lent.specs.Loops.{Fitting}
 use Rattle.loop_forward.proofs.Progress.{Progress, Turn, last_byte, first_byte, by_last, by_first, whole-window, turn-listed, turn-skipped}
-use Rattle.loop_forward.specs.Hashing.{Summing}
-use Rattle.loop_forward.proofs.Hashing.{lost-there, summing-more, summing-less}
+use Rattle.loop_hcam.specs.Hashing.{HcamTabled, Summing, Finds}
+use Rattle.loop_hcam.proofs.Sums.{lost-there, summing-more, summing-less}
 use Rattle.loop_hcam.specs.declared.Finding.{Finding}
-use Rattle.loop_hcam.specs.Hashing.{Finds, HcamSearchable}
 use Rattle.loop_hcam.proofs.Judging.{Rightly, judged-none, judged-found}
-use Rattle.loop_hcam.proofs.hcam_windows.Given as goal
+use Rattle.loop_hcam.proofs.HcamForward.slide.Given as goal
 
 -- What holds before the window at s
 pub record Running (P : List ℕ) (m : ℕ) (T : List ℕ) (range : Range) (before after : List ℕ) (sum lost at inspections s : ℕ) : Type 0 where
@@ -77,43 +76,22 @@ module _ {P allowed values : List ℕ} {target : Target} {m : ℕ} {T : List ℕ
     on-skipped not_listed tally =
         turn-skipped here.turn _ (omega (arith, right.verifies)) (omega (arith, verification-small)) (sym right.lists ∙ not_listed)
 
--- The loop goes on up to `end`, the range's end or, where the list is full, the next window start; and while it does a place is free
-pub record Bounded (range : Range) (list : List ℕ) (end at s : ℕ) : Type 0 where
-  pub free : s < end → at < length list
-  pub why : (end ≡ range.end) ⊎ (length list ≤ at)
-
-pub bounded-inside : {range : Range} {list : List ℕ} {end at s : ℕ} → Bounded range list end at s → s < end → s < range.end
-bounded-inside b h = ⊎_elim (λ e. omega arith) (λ full. absurd (omega (arith, b.free h))) b.why
-
-pub bounded-end : {range : Range} {list : List ℕ} {end at s : ℕ} → Bounded range list end at s → end ≤ s → (range.end ≤ s) ⊎ (length list ≤ at)
-bounded-end b h = ⊎_elim (λ e. inl (omega arith)) (λ full. inr full) b.why
-
 -- so it is in a turn
-pub sums-of : {m sum lost end at inspections s : ℕ} {allowed values T before after : List ℕ} {target : Target} {summed : Summed} {range : Range}
-    → (given : HcamSearchable m allowed values target T summed range) → Bytes T → Bounded range after end at s
-    → Running given.of m T range before after sum lost at inspections s → s < end
-    → Sums given.of allowed values target m T range before after sum lost at inspections s
-sums-of given bytes bounds running inside =
+pub sums-of : {sum lost at inspections s : ℕ} {P allowed values T before after : List ℕ} {target : Target} {range : Range}
+    → HcamTabled P allowed values target → Fitting T (length P) range → Bytes T → Running P (length P) T range before after sum lost at inspections s
+    → s < range.end → at < length after
+    → Sums P allowed values target (length P) T range before after sum lost at inspections s
+sums-of tabled fitting bytes running in-loop place =
     record {
-      turn =
-          record {
-            fitting = given.fitting;
-            bytes = bytes;
-            so_far = running.progress;
-            in-loop = bounded-inside bounds inside;
-            place = bounds.free inside;
-          };
-      sized = given.sized;
-      allows = given.allows;
-      tabled = given.tabled;
+      turn = record { fitting = fitting; bytes = bytes; so_far = running.progress; in-loop = in-loop; place = place };
+      sized = refl;
+      allows = tabled.allows;
+      tabled = tabled.valued;
       state = running.state;
     }
 
+-- No place was missing yet
 abbrev pub invariant-loop-s : goal.invariant-loop-s
 invariant-loop-s l =
-    Bounded l.range l.list l.end l.at l.s
-    × ((given : HcamSearchable l.m l.allowed l.values l.target l.text (record { sum = l.initial.sum; lost = l.initial.lost }) l.range)
-    → Running given.of l.m l.text l.range l.initial.list l.list l.sum l.lost l.at l.inspections l.s)
-
-abbrev pub decreases-loop-s : goal.decreases-loop-s
-decreases-loop-s l = l.end - l.s
+    Running l.self.pattern.now (length l.self.pattern.now) l.text l.fn.range l.initial.list l.list l.sum l.lost l.at l.inspections l.s
+    × (l.next ≡ l.fn.range.end)

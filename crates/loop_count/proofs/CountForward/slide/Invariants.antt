@@ -5,17 +5,16 @@ use native.Mathlib.Omega.{arith}
 use mir.Val.{bool_byte}
 use lib.Dec.{leb}
 use lib.ListN.{length, get_or, set, drop, length-take}
-use Rattle.loop_forward.specs.declared.Sliding.{Sliding}
 use Rattle.jumbled.specs.Match.{Bytes, window, window_prefix}
 use Rattle.jumbled.specs.Steps.{count_judged}
 use Rattle.table_parikh.specs.Table.{allowances}
 use Rattle.lent.specs.declared.Range.{Range}
-use Rattle.loop_forward.specs.Counting.{Counting}
+use Rattle.lent.specs.Loops.{Fitting}
+use Rattle.loop_count.specs.Counting.{CountTabled, Counting}
 use Rattle.loop_forward.proofs.Progress.{Progress, Turn, last_byte, first_byte, by_last, by_first, prefix-bytes, prefix-short, turn-listed, turn-skipped}
-use Rattle.loop_forward.proofs.Counting.{counting_more, counter-room, excess-room, counting-less}
-use Rattle.loop_count.specs.Counting.{CountSearchable}
+use Rattle.loop_count.proofs.Counters.{counting_more, counter-room, excess-room, counting-less}
 use Rattle.loop_count.proofs.Judging.{judged-right, judged-wrong, judged-unverified}
-use Rattle.loop_count.proofs.count_windows.Given as goal
+use Rattle.loop_count.proofs.CountForward.slide.Given as goal
 
 -- What holds before the window at s
 pub record Running (P : List ℕ) (m k : ℕ) (T : List ℕ) (range : Range) (before after counts : List ℕ) (window_excess at inspections s : ℕ) : Type 0 where
@@ -82,22 +81,19 @@ module _ {P allowed : List ℕ} {m k : ℕ} {T : List ℕ} {range : Range} {befo
   kept = counting-less from_first (first_byte here.turn) here.known (few (s + 1))
 
 -- so it is in a turn
-pub counts-of : {m k s at inspections : ℕ} {allowed T before after counts : List ℕ} {window_excess : ℕ} {sliding : Sliding} {range : Range}
-    → (given : CountSearchable m allowed T sliding range) → Bytes T → Running given.of m k T range before after counts window_excess at inspections s
+pub counts-of : {m k s at inspections : ℕ} {P allowed T before after counts : List ℕ} {window_excess : ℕ} {range : Range}
+    → CountTabled P allowed → Fitting T m range → Bytes T → Running P m k T range before after counts window_excess at inspections s
     → s < range.end → at < length after
-    → Counts given.of allowed m k T range before after counts window_excess at inspections s
-counts-of given bytes running in-loop place =
+    → Counts P allowed m k T range before after counts window_excess at inspections s
+counts-of tabled fitting bytes running in-loop place =
     record {
-      turn = record { fitting = given.fitting; bytes = bytes; so_far = running.progress; in-loop = in-loop; place = place };
-      known = given.allows;
+      turn = record { fitting = fitting; bytes = bytes; so_far = running.progress; in-loop = in-loop; place = place };
+      known = tabled.allows;
       state = running.state;
     }
 
+-- No place was missing yet
 abbrev pub invariant-loop-s : goal.invariant-loop-s
 invariant-loop-s l =
-    let range : Range = record { first = l.initial.s; end = l.end; base = l.base; at = l.initial.at } in
-    (given : CountSearchable l.m l.allowed l.text (record { counts = l.initial.counts; excess = l.initial.excess }) range)
-    → Running given.of l.m l.k l.text range l.initial.list l.list l.counts l.excess l.at l.inspections l.s
-
-abbrev pub decreases-loop-s : goal.decreases-loop-s
-decreases-loop-s l = l.end - l.s
+    Running l.self.pattern.now (length l.self.pattern.now) l.self.k l.text l.fn.range l.initial.list l.list l.counts l.excess l.at l.inspections l.s
+    × (l.next ≡ l.fn.range.end)
