@@ -10,14 +10,12 @@ use Rattle.jumbled.specs.Scan.{Result, forward}
 use Rattle.jumbled.specs.Steps.{count_judged}
 use Rattle.jumbled.proofs.Cuts.{◌then◌, forward-cut, forward-count, forward-within, through-between}
 use Rattle.jumbled.proofs.Drivers.{forward-lists}
-use Rattle.table_parikh.specs.Table.{AllowedBy}
 use Rattle.lent.specs.declared.Range.{Range}
-use Rattle.loop_forward.specs.declared.CountStart.{CountStart}
-use Rattle.loop_forward.specs.declared.Sliding.{Sliding}
-use Rattle.loop_forward.specs.Counting.{Counting, CountStartable, CountStarted}
+use Rattle.loop_forward.specs.declared.Slid.{Slid}
 use Rattle.loop_forward.specs.Windows.{covered}
-use Rattle.loop_count.specs.declared.Counted.{Counted}
-use Rattle.loop_count.specs.Counting.{CountSearchable, CountSearched}
+use Rattle.loop_forward.specs.Sliding.{Slidable, SlidOver}
+use Rattle.loop_count.specs.declared.Sliding.{Sliding}
+use Rattle.loop_count.specs.Counting.{Counting}
 use Rattle.sheet_count.specs.Counting.{Countable}
 
 -- what the windows before the one at `first` yield
@@ -28,17 +26,21 @@ result_to P k T first = forward (count_judged P k) (length P) T 0 first 1
 abbrev rest : ℕ → ℕ → Range
 rest first end = record { first = first; end = end; base = 0; at = 0 }
 
+-- a state that is that of these bytes
+abbrev keeps : List ℕ → List ℕ → Sliding → Type 0
+keeps P U state = Counting P U state.counts state.excess
+
 -- What holds before the window at `first`: the positions before it are counted, and the state is that of the window but its last byte
-pub record CountedTo (P : List ℕ) (k : ℕ) (T : List ℕ) (sliding : Sliding) (first found : ℕ) : Type 0 where
+pub record CountedTo (P : List ℕ) (k : ℕ) (T : List ℕ) (state : Sliding) (first found : ℕ) : Type 0 where
   pub within : first ≤ starts (length P) T
   pub count : found ≡ length (result_to P k T first).occurrences
-  pub state : Counting P (window_prefix (length P) T first) sliding.counts sliding.excess
+  pub kept : keeps P (window_prefix (length P) T first) state
 
 -- and once a piece is searched from there
-pub record Onward (P : List ℕ) (k : ℕ) (T : List ℕ) (first found : ℕ) (r : Counted) : Type 0 where
+pub record Onward (P : List ℕ) (k : ℕ) (T : List ℕ) (first found : ℕ) (r : Slid Sliding) : Type 0 where
   pub further : first < r.next
   pub fits : found + r.at < 2 ^ 64
-  pub so_far : CountedTo P k T r.sliding r.next (found + r.at)
+  pub so_far : CountedTo P k T r.state r.next (found + r.at)
 
 -- ---- where it begins and ends
 
@@ -46,8 +48,8 @@ none_before : (P : List ℕ) (k : ℕ) (T : List ℕ) → 0 ≡ length (result_t
 unfolding forward
 none_before P k T = refl
 
-pub begun : {P : List ℕ} {k : ℕ} {T : List ℕ} {r : CountStart} → CountStarted P (length P) T r → CountedTo P k T r.sliding 0 0
-begun {P} {k} {T} started = record { within = omega arith; count = none_before P k T; state = started.state }
+pub begun : {P : List ℕ} {k : ℕ} {T : List ℕ} {state : Sliding} → keeps P (window_prefix (length P) T 0) state → CountedTo P k T state 0 0
+begun {P} {k} {T} kept = record { within = omega arith; count = none_before P k T; kept = kept }
 
 module _ {T : List ℕ} (bytes : Bytes T) where
   all-before : (P : List ℕ) (k first : ℕ) → first ≡ starts (length P) T → (result_to P k T first).occurrences ≡ positions P k T
@@ -58,23 +60,17 @@ module _ {T : List ℕ} (bytes : Bytes T) where
   pub no-windows : (P : List ℕ) (k : ℕ) → length T < length P → 0 ≡ length (positions P k T)
   no-windows P k short = none_before P k T ∙ ap length (all-before P k 0 (omega arith))
 
-  pub all-counted : {P : List ℕ} {k : ℕ} {sliding : Sliding} {first found : ℕ} → CountedTo P k T sliding first found
+  pub all-counted : {P : List ℕ} {k : ℕ} {state : Sliding} {first found : ℕ} → CountedTo P k T state first found
       → starts (length P) T ≤ first → found ≡ length (positions P k T)
-  all-counted {P} {k} {sliding} {first} so_far last = so_far.count ∙ ap length (all-before P k first (omega (arith, so_far.within)))
+  all-counted {P} {k} {state} {first} so_far last = so_far.count ∙ ap length (all-before P k first (omega (arith, so_far.within)))
 
 -- ---- a piece
 
-module _ {P counts allowed T : List ℕ} (ready : Countable P counts T) (table : AllowedBy counts allowed) where
-  abbrev pub for-start : length P ≤ length T → CountStartable (length P) allowed T
-  for-start whole =
-      record { of = P; allows = table P ready.pattern-counts; some = ready.some; short = ready.short; enough = omega arith }
-
-  module _ {k : ℕ} {sliding : Sliding} {first found end : ℕ} (so_far : CountedTo P k T sliding first found) where
-    abbrev pub for-piece : end ≡ starts (length P) T → CountSearchable (length P) allowed T sliding (rest first end)
+module _ {P counts T : List ℕ} (ready : Countable P counts T) where
+  module _ {k : ℕ} {state : Sliding} {first found end : ℕ} (so_far : CountedTo P k T state first found) where
+    pub for-piece : end ≡ starts (length P) T → Slidable (keeps P) (length P) T state (rest first end)
     for-piece ends =
         record {
-          of = P;
-          allows = table P ready.pattern-counts;
           fitting =
               record {
                 some = ready.some;
@@ -83,10 +79,10 @@ module _ {P counts allowed T : List ℕ} (ready : Countable P counts T) (table :
                 whole = λ s h. omega arith;
                 numbered = omega (arith, ready.some, ready.numbered);
               };
-          state = so_far.state;
+          kept = so_far.kept;
         }
 
-    module _ {before after : List ℕ} {r : Counted} (searched : CountSearched P (length P) k T (rest first end) before after r)
+    module _ {before after : List ℕ} {r : Slid Sliding} (searched : SlidOver (keeps P) (count_judged P k) (length P) T (rest first end) before after r)
         (ends : end ≡ starts (length P) T) (places : 0 < length before) (left : first < end) where
       abbrev judged : ℕ
       judged = covered (count_judged P k) (length P) T (rest first end) before
@@ -103,12 +99,12 @@ module _ {P counts allowed T : List ℕ} (ready : Countable P counts T) (table :
       counted : found + r.at ≡ length (result_to P k T (first + judged)).occurrences
       counted = rw (parts, length-append) (omega (arith, so_far.count, searched.searched.listed.next_place))
 
-      next : CountedTo P k T r.sliding r.next (found + r.at)
+      next : CountedTo P k T r.state r.next (found + r.at)
       next =
           record {
             within = omega (arith, searched.searched.goes_on, some-judged.1);
             count = rw searched.searched.goes_on counted;
-            state = searched.state;
+            kept = searched.kept;
           }
 
       pub onward : Onward P k T first found r

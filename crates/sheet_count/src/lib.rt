@@ -8,6 +8,8 @@ ghost use Rattle.jumbled.specs.Match.{positions};
 ghost use Rattle.sheet_count.specs.Counting.{Countable};
 
 use lent::Range;
+use loop_count::Count;
+use loop_forward::Forward;
 
 // Method 1 goes through the text once and lists into places of this function's own, piece by piece: it ends where they are full, and goes on
 // from there with the state that it handed back. A piece's positions overwrite those before them, since only their number is asked for.
@@ -15,17 +17,21 @@ pub fn count_matches(pattern: &[u8], counts: &[u8; 256], k: usize, text: &[u8]) 
     requires { Countable pattern.now counts.now text.now }
     ensures { result ≡ length (positions pattern.now k text.now) }
 {
-    let m = pattern.len();
-    if text.len() < m {
+    if text.len() < pattern.len() {
         return 0;
     }
     let allowed = table_parikh::allowances(counts);
-    let started = loop_forward::count_start(m, &allowed, text);
-    let end = text.len() - m + 1;
+    let method = Count {
+        pattern,
+        allowed: &allowed,
+        k,
+    };
+    let end = text.len() - pattern.len() + 1;
     let mut places = [0u32; 64];
-    let mut sliding = started.sliding;
+    let mut state = method.start(text).state;
     let mut first = 0;
     let mut found = 0;
+    // A piece goes on by as many windows as it took to fill the places.
     while first < end {
         let range = Range {
             first,
@@ -33,10 +39,10 @@ pub fn count_matches(pattern: &[u8], counts: &[u8; 256], k: usize, text: &[u8]) 
             base: 0,
             at: 0, // from the first place again
         };
-        let counted = loop_count::count_windows(m, &allowed, k, text, sliding, range, &mut places);
-        sliding = counted.sliding;
-        first = counted.next;
-        found += counted.at;
+        let slid = method.slide(text, state, range, &mut places);
+        state = slid.state;
+        first = slid.next;
+        found += slid.at;
     }
     found
 }

@@ -5,7 +5,7 @@ use Rattle.sheet_count.proofs.Pieces.{CountedTo}
 use Rattle.sheet_count.proofs.count_matches.Given as goal
 
 abbrev pub invariant-loop-first : goal.invariant-loop-first
-invariant-loop-first l = (length l.places ≡ 64) × CountedTo l.pattern l.k l.text l.sliding l.first l.found
+invariant-loop-first l = (length l.places ≡ 64) × CountedTo l.pattern l.k l.text l.state l.first l.found
 
 abbrev pub decreases-loop-first : goal.decreases-loop-first
 decreases-loop-first l = l.end - l.first
