@@ -1,12 +1,12 @@
 -- A loop that fills places from the front, each with what a definition says of it.
 use borrow.Author.Tests.{eq-eqb, ne_eqb}
-use mathlib.Core.Path.{◌≡◌, refl, sym, ◌∙◌}
+use mathlib.Core.Path.{◌≡◌, refl, sym, ap₂, ◌∙◌}
 use mathlib.Core.List.{List, [], ◌∷◌, ◌++◌}
 use Prim.Native.Nat.{ℕ, zero, suc, ◌+◌, ◌*◌, ◌%◌, ◌^◌, ◌≤◌, ◌<◌}
 use native.Mathlib.Numerals.{add-one}
 use native.Mathlib.Omega.{arith}
-use lib.ListN.{length, get_or, take, drop, set, length-set}
-use lib.Seq.{length-take-le, take_at, get_or-take}
+use lib.ListN.{length, get_or, take, drop, set, length-set, length-append}
+use lib.Seq.{length-take-le, take_at, take_all, get_or-take}
 use Rattle.table_parikh.specs.Table.{tabulate}
 use Rattle.table_parikh.proofs.Tables.{tabulated}
 use Rattle.lent.specs.Placed.{placed}
@@ -43,15 +43,38 @@ module _ {f : ℕ → ℕ} {n : ℕ} {before places : List ℕ} {i : ℕ} (filli
       let there : n ≤ length places = omega arith in
       record { within = (there, sym (length-take-le n places there)); written = rw end at filling.written }
 
--- nothing is filled
-pub filled-empty : (f : ℕ → ℕ) (places : List ℕ) → Filled f 0 places places
-unfolding tabulate
-filled-empty f places = record { within = (omega arith, omega arith); written = written_none places 0 }
-
 -- the part that is filled
 pub written-part : {before U after : List ℕ} {n : ℕ} → Written before 0 U after n → take n after ≡ U
 unfolding placed
 written-part {before} {U} {n = n} w = rw w.filled (take_at U (drop (0 + length U) before) n (omega (arith, w.place)))
+
+-- The first n places as a part of their own, of which i are filled
+module _ {f : ℕ → ℕ} (n : ℕ) (before : List ℕ) {part : List ℕ} {i : ℕ} (filling : Filling f n (take n before) part i) (room : n ≤ length before) where
+  as_many : length (take n before) ≡ n
+  as_many = length-take-le n before room
+
+  pub filling-part : {v : ℕ} → i < length (take n before) → v ≡ f i → Filling f n (take n before) (set part i v) (i + 1)
+  filling-part inside e = filling-more filling (omega (arith, as_many)) (omega (arith, as_many)) e
+
+  pub filled-front : length (take n before) ≤ i → Filled f n before (part ++ drop n before)
+  unfolding placed
+  filled-front all =
+      let whole = filling-all filling (omega (arith, as_many)) (omega (arith, as_many)) in
+      let is : part ≡ tabulate n f = sym (take_all n part (omega (arith, as_many, filling.kept))) ∙ written-part whole.written in
+      let there : n ≤ length (part ++ drop n before) = omega (arith, length-append part (drop n before), as_many, filling.kept) in
+      record {
+        within = (there, sym (length-take-le n (part ++ drop n before) there));
+        written =
+            record {
+              filled = ap₂ (λ (U : List ℕ) (k : ℕ). U ++ drop k before) is whole.written.place;
+              place = whole.written.place;
+            };
+      }
+
+-- nothing is filled
+pub filled-empty : (f : ℕ → ℕ) (places : List ℕ) → Filled f 0 places places
+unfolding tabulate
+filled-empty f places = record { within = (omega arith, omega arith); written = written_none places 0 }
 
 pub filled-part : {f : ℕ → ℕ} {n : ℕ} {before after : List ℕ} → Filled f n before after → take n after ≡ tabulate n f
 filled-part filled = written-part filled.written

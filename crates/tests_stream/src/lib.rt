@@ -16,32 +16,33 @@ pub mod patterns;
 // The longest list that a call is lent.
 const LONGEST_LIST: usize = 65537;
 
-// Room for it, every place 0. Its length is said besides, by a law: the prover would count the places one by one.
+// Room for it, every place 0.
 pub fn list_room() -> [u32; LONGEST_LIST]
     ensures { (result ≡ replicate 65537 0) × (65537 ≡ length result) }
 {
-    [0; LONGEST_LIST]
+    lent::room::<u32, LONGEST_LIST>(0)
 }
 
 // The longest text, and the longest buffer of a sheet.
 const LONGEST_BYTES: usize = 65537;
 
-// Room for either, said likewise.
+// Room for either.
 pub fn byte_room() -> [u8; LONGEST_BYTES]
     ensures { (result ≡ replicate 65537 0) × (65537 ≡ length result) }
 {
-    [0; LONGEST_BYTES]
+    lent::room::<u8, LONGEST_BYTES>(0)
 }
 
 // Each of the first places gets a number that tells which place it is, so that a place that a call should have left alone shows.
+// Lists, buffers and lengths are filled by a loop each, under the one law `Filling`: a function for all three would have to take the numbers by a
+// closure and say of any type that it holds numbers, which is more than the three lines that it saves.
 pub fn fill_list(list: &mut [u32], places: usize)
     requires { (places ≤ 65537) × (places ≤ length list.old) }
     ensures { Filled known_place places list.old list.new }
 {
-    let mut i: usize = 0;
-    while i < places {
-        list[i] = ((i * 2654435761 + 12345) % 4294967296) as u32;
-        i += 1;
+    let filled = &mut list[..places];
+    for (i, place) in filled.iter_mut().enumerate() {
+        *place = ((i * 2654435761 + 12345) % 4294967296) as u32;
     }
 }
 
@@ -50,10 +51,9 @@ pub fn fill_buffer(buffer: &mut [u8], room: usize)
     requires { (room ≤ 65537) × (room ≤ length buffer.old) }
     ensures { Filled known_byte room buffer.old buffer.new }
 {
-    let mut i: usize = 0;
-    while i < room {
-        buffer[i] = ((i * 37 + 11) % 256) as u8;
-        i += 1;
+    let filled = &mut buffer[..room];
+    for (i, place) in filled.iter_mut().enumerate() {
+        *place = ((i * 37 + 11) % 256) as u8;
     }
 }
 
@@ -71,21 +71,20 @@ fn put_letters(letters: &[u8], picked: bool, seed: u64, len: usize, text: &mut [
     ensures value { result ≡ made_length letters.now len }
     ensures filled { Filled (letter_at letters.now picked seed) result text.old text.new }
 {
-    if letters.len() == 0 {
+    if letters.is_empty() {
         return 0;
     }
     let mut x = seed % 2147483648;
-    let mut i: usize = 0;
-    while i < len {
+    let filled = &mut text[..len];
+    for (i, byte) in filled.iter_mut().enumerate() {
         x = (x * 1103515245 + 12345) % 2147483648;
-        text[i] = letters[letter_index(picked, x, i) % letters.len()];
-        i += 1;
+        *byte = letters[letter_index(picked, x, i) % letters.len()];
     }
     len
 }
 
 // A place past the end of every stream.
-const NOWHERE: usize = 18446744073709551615;
+const NOWHERE: usize = usize::MAX;
 
 // A part of the stream, and the place after it.
 #[derive(Drop)]
@@ -134,13 +133,9 @@ fn from_low_first(bytes: &[u8]) -> u64
     requires { length bytes.now ≤ 8 }
     ensures { result ≡ from_low_first bytes.now }
 {
-    let mut value: u64 = 0;
-    let mut i = bytes.len();
-    while 0 < i {
-        i -= 1;
-        value = value * 256 + bytes[i] as u64;
-    }
-    value
+    let mut number = [0; 8];
+    number[..bytes.len()].copy_from_slice(bytes);
+    u64::from_le_bytes(number)
 }
 
 // A number of `width` bytes that is `most` at most; of 0 bytes it is 0.
@@ -150,9 +145,7 @@ pub fn read_number(stream: &[u8], at: usize, width: usize, most: u64) -> Number
     ensures value { result ≡ number_at stream.now at width most }
 {
     let part = take_part(stream, at, width);
-    let start = part.start;
-    let end = part.end;
-    let value = from_low_first(&stream[start..end]);
+    let value = from_low_first(&stream[part.start..part.end]);
     if most < value {
         return Number {
             value: 0,
@@ -180,9 +173,7 @@ fn spell(
     ensures spelled { Spelled stream.now (spelling at count picked seed len) result text.old text.new }
 {
     let letters = take_part(stream, at, count);
-    let start = letters.start;
-    let end = letters.end;
-    let made = put_letters(&stream[start..end], picked, seed, len, text);
+    let made = put_letters(&stream[letters.start..letters.end], picked, seed, len, text);
     if made < len {
         return Text {
             len: made,
@@ -202,8 +193,8 @@ fn made_text(stream: &[u8], at: usize, form: usize, longest: usize, text: &mut [
     ensures spelled { Spelled stream.now (made_spelling stream.now at form longest) result text.old text.new }
 {
     let len = read_number(stream, at, 4, longest as u64);
-    let seed = read_number(stream, len.next, (form - 1) * 4, 4294967295);
-    let count = read_number(stream, seed.next, 1, 255);
+    let seed = read_number(stream, len.next, (form - 1) * 4, u32::MAX as u64);
+    let count = read_number(stream, seed.next, 1, u8::MAX as u64);
     spell(
         stream,
         count.next,

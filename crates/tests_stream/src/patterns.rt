@@ -44,10 +44,9 @@ pub fn read_lengths(handed: &[u8], lengths: &mut [usize]) -> usize
     ensures filled { Filled (length_at handed.now) result lengths.old lengths.new }
 {
     let count = length_count(handed);
-    let mut i: usize = 0;
-    while i < count {
-        lengths[i] = number_in(handed, 5 + 8 * i, 8, 18446744073709551615);
-        i += 1;
+    let filled = &mut lengths[..count];
+    for (i, length) in filled.iter_mut().enumerate() {
+        *length = number_in(handed, 5 + 8 * i, 8, u64::MAX);
     }
     count
 }
@@ -56,8 +55,7 @@ pub fn read_lengths(handed: &[u8], lengths: &mut [usize]) -> usize
 fn bytes_from(handed: &[u8], at: usize) -> &[u8]
     ensures { result.now ≡ drop at handed.now }
 {
-    let start = lent::least(at, handed.len());
-    &handed[start..]
+    &handed[at.min(handed.len())..]
 }
 
 // The bytes of several patterns, which follow the lengths.
@@ -78,7 +76,7 @@ pub fn marked_pattern(handed: &[u8]) -> &[u8]
 pub fn start_position(handed: &[u8]) -> usize
     ensures { result ≡ start_position handed.now }
 {
-    number_in(handed, 0, 8, 18446744073709551615)
+    number_in(handed, 0, 8, u64::MAX)
 }
 
 // Its pattern.

@@ -1,18 +1,19 @@
 -- `tests_stream::put_letters` meets its contract.
+use borrow.Author.Rules.{rules}
 use mathlib.Core.Path.{refl, ap, ◌∙◌}
 use Prim.Native.Nat.{ℕ, ◌%◌, ◌^◌, ◌<◌}
 use native.Mathlib.Numerals.{add-one}
 use native.Mathlib.Omega.{arith}
 use lib.ListN.{length, get_or}
 use Rattle.tests_stream.specs.Fillings.{drawn, letter_index}
-use Rattle.tests_stream.proofs.Filling.{filling-none, filling-more, filled-empty, made_none, made_all, drawn-small, drawn-more}
+use Rattle.tests_stream.proofs.Filling.{filling-none, filling-part, filled-front, filled-empty, made_none, made_all, drawn-small, drawn-more}
 use Rattle.tests_stream.proofs.put_letters.Goals as goal
 
-pub returns-then-letters-eq0-clause-value : goal.returns-then-letters-eq0-clause-value
-returns-then-letters-eq0-clause-value c = made_none _ _ c.if-letters-eq0.true
+pub returns-then-is_empty-clause-value : goal.returns-then-is_empty-clause-value
+returns-then-is_empty-clause-value c = made_none _ _ (search rules)
 
-pub returns-then-letters-eq0-clause-filled : goal.returns-then-letters-eq0-clause-filled
-returns-then-letters-eq0-clause-filled c = filled-empty _ _
+pub returns-then-is_empty-clause-filled : goal.returns-then-is_empty-clause-filled
+returns-then-is_empty-clause-filled c = filled-empty _ _
 
 pub loop-i-init : goal.loop-i-init
 unfolding drawn
@@ -36,8 +37,11 @@ loop-i-preserved c =
     c.letter_index.ensures ∙ ap (λ (x : ℕ). letter_index c.args.picked x c.loop-i.i) next
     in (
       rw add-one next,
-      filling-more c.loop-i.invariant.1 c.requires (omega arith) (ap (λ (r : ℕ). get_or letters (r % length letters) 0) index),
+      filling-part _ _ c.loop-i.invariant.1 c.requires c.loop-i-test.true (ap (λ (r : ℕ). get_or letters (r % length letters) 0) index),
     )
 
 pub returns-clause-value : goal.returns-clause-value
-returns-clause-value c = made_all _ _ c.if-letters-eq0.false
+returns-clause-value c = made_all _ _ (search rules)
+
+pub returns-clause-filled : goal.returns-clause-filled
+returns-clause-filled c = filled-front _ _ c.loop-i.invariant.1 c.requires c.loop-i-test.false
