@@ -1,5 +1,5 @@
 -- The digest of a sequence of bytes, and the bytes that lists and the fields of searches are digested as (tools/vectors_stream.py).
-use Rattle.std.specs.Prelude.{◌≡◌, List, [], ◌∷◌, ◌++◌, ℕ, ◌+◌, ◌*◌, ◌%◌, ◌<◌}
+use Rattle.std.specs.Prelude.{List, [], ◌∷◌, ◌++◌, ℕ, ◌+◌, ◌*◌, ◌%◌}
 use Rattle.image_form.specs.Image.{low_first}
 
 -- A byte more
@@ -10,11 +10,6 @@ digest_step h byte = (h * 251 + byte + 1) % 72057594037927931
 unfoldable pub digest : ℕ → List ℕ → ℕ
 digest h [] = h
 digest h (byte ∷ bytes) = digest (digest_step h byte) bytes
-
--- r is the digest of bytes after others whose digest is `before`; it is one that can be gone on from
-pub record Digested (before : ℕ) (bytes : List ℕ) (r : ℕ) : Type 0 where
-  pub is : r ≡ digest before bytes
-  pub small : r < 72057594037927931
 
 -- "a list goes in as 4 bytes a place"
 unfoldable pub list_bytes : List ℕ → List ℕ
