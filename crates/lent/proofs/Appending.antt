@@ -14,6 +14,10 @@ use Rattle.lent.proofs.Writing.{written_none, written_then, written-length, firs
 pub room_first : {writer : Writer} {U : List ℕ} (W : List ℕ) → RoomFor writer (U ++ W) → RoomFor writer U
 room_first {writer} {U} W room = record { fits = first_fits writer.at U W room.fits }
 
+-- and for what is no longer than what there is room for
+pub room_shorter : {writer : Writer} {U W : List ℕ} → RoomFor writer W → length U ≤ length W → RoomFor writer U
+room_shorter room shorter = record { fits = omega (arith, room.fits) }
+
 -- and for what fits a buffer from the place that the writer began at
 pub room_from : {writer : Writer} {buffer U : List ℕ} {at : ℕ} → writer.buffer.now ≡ buffer → writer.at ≡ at → at + length U ≤ length buffer → RoomFor writer U
 room_from same from inside = record { fits = omega (arith, ap length same, from) }

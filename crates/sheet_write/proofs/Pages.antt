@@ -1,5 +1,5 @@
 -- Laws of the pages as they are written: the part of the list that a page has, and the room for it.
-use mathlib.Core.Path.{◌≡◌, sym, ap, subst, ◌∙◌}
+use mathlib.Core.Path.{◌≡◌, sym, ap, ◌∙◌}
 use mathlib.Core.List.{List, [], ◌∷◌, ◌++◌}
 use mathlib.Core.Logic.{⊎_elim}
 use Prim.Native.Nat.{ℕ, zero, suc, ◌+◌, ◌-◌, ◌*◌, ◌≤◌, ◌<◌, min}
@@ -7,10 +7,9 @@ use native.Mathlib.Omega.{arith}
 use lib.ListN.{length, take, drop, length-drop}
 use lib.Seq.{take_all, take-nil}
 use Rattle.jumbled.proofs.Sums.{below_or_not}
-use Rattle.lent.specs.Written.{Written}
-use Rattle.sheet_form.specs.Sheet.{line, on_page, page, page_count, sheet}
+use Rattle.sheet_form.specs.Sheet.{on_page, page, page_count, sheet}
 use Rattle.sheet_form.proofs.Lengths.{on-page, standing, standing-more, standing-shorter}
-use Rattle.sheet_write.specs.Writing.{LineFits, WindowsInside, break_before}
+use Rattle.sheet_write.specs.Writing.{WindowsInside, break_before}
 
 -- fifty positions from the page's first on, or up to the list's end
 pub page-part : (listed : List ℕ) (i : ℕ) → take (min (50 * i + 50) (length listed) - 50 * i) (drop (50 * i) listed) ≡ on_page listed i
@@ -41,11 +40,3 @@ page-room m T listed i l room =
 pub break-later : (i : ℕ) → 0 < i → break_before i ≡ 12 ∷ []
 break-later zero later = absurd (omega arith)
 break-later (suc before) later = ap (λ (U : List ℕ). 12 ∷ U) (take-nil before)
-
--- ---- a window under two names
-
-pub fits-same : {s : ℕ} {W W' buffer : List ℕ} {at : ℕ} → W ≡ W' → LineFits s W' buffer at → LineFits s W buffer at
-fits-same {s} {W} {W'} {buffer} {at} same = subst (λ (X : List ℕ). LineFits s X buffer at) (sym same)
-
-pub written_same : {b after : List ℕ} {at next : ℕ} (s : ℕ) {W W' : List ℕ} → W ≡ W' → Written b at (line s W) after next → Written b at (line s W') after next
-written_same {b} {after} {at} {next} s same = subst (λ (X : List ℕ). Written b at (line s X) after next) same

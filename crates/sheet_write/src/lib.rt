@@ -1,15 +1,15 @@
-// Writes the marked sheet (document 02, T-02) into a lent buffer: column by column, line by line, page by page. Each function that writes does so from
-// the place `at` on and answers with the place after what it wrote; `write_sheet` alone begins at the buffer's start.
+// Writes the marked sheet (document 02, T-02) into a lent buffer: column by column, line by line, page by page.
 
 #![tactic(auto)]
 
 ghost use Rattle.std.specs.Prelude.{◌≡◌, map, ◌+◌, ◌≤◌, length};
-ghost use Rattle.lent.specs.Written.{Written};
+ghost use mathlib.Core.List.{flat_map};
+ghost use Rattle.lent.specs.Appended.{RoomFor, Appended};
 ghost use Rattle.ascii.specs.Decimal.{decimal};
-ghost use Rattle.sheet_form.specs.Sheet.{shown, right_aligned, left_aligned, line, page_count, sheet_bytes};
-ghost use Rattle.sheet_write.specs.Writing.{LineFits, break_before, PageFits, PageWritten, SheetFits, SheetWritten};
+ghost use Rattle.sheet_form.specs.Sheet.{shown, right_aligned, left_aligned, line, line_at, page_count, sheet_bytes};
+ghost use Rattle.sheet_write.specs.Writing.{LineFits, break_before, PageFits, SheetFits, SheetWritten};
 
-use lent::{fill, least};
+use lent::writer::Writer;
 
 const POSITION_COLUMN: usize = 10;
 
@@ -32,83 +32,73 @@ fn shown_as(reading: u8) -> u8
     }
 }
 
-// Writes a position, blanks to its left. Its last digit is the first to be known, so the column is written from the right.
-fn write_position(position: usize, buffer: &mut [u8], at: usize) -> usize
-    requires { (length (decimal position) ≤ 10) × (at + 10 ≤ length buffer.old) }
-    ensures { Written buffer.old at (right_aligned 10 (decimal position)) buffer.new result }
+// A position, blanks to its left. Its last digit is the first to be known, so the column is filled from the right.
+fn position_column(position: usize) -> [u8; POSITION_COLUMN]
+    requires { length (decimal position) ≤ 10 }
+    ensures { result ≡ right_aligned 10 (decimal position) }
 {
+    let mut column = [b' '; POSITION_COLUMN];
     let mut rest = position;
     let mut i = POSITION_COLUMN;
     while 10 <= rest {
         i -= 1;
-        buffer[at + i] = b'0' + (rest % 10) as u8;
+        column[i] = b'0' + (rest % 10) as u8;
         rest = rest / 10;
     }
     i -= 1;
-    buffer[at + i] = b'0' + rest as u8;
-    fill(b' ', i, buffer, at);
-    at + POSITION_COLUMN
+    column[i] = b'0' + rest as u8;
+    column
 }
 
 // Writes readings as they are printed.
-fn write_shown(readings: &[u8], buffer: &mut [u8], at: usize) -> usize
-    requires { at + length readings.now ≤ length buffer.old }
-    ensures { Written buffer.old at (map shown readings.now) buffer.new result }
+fn write_shown(readings: &[u8], writer: &mut Writer<'_>)
+    requires { RoomFor writer.old (map shown readings.now) }
+    ensures { Appended writer.old (map shown readings.now) writer.new }
 {
-    let mut i = 0;
-    while i < readings.len() {
-        buffer[at + i] = shown_as(readings[i]);
-        i += 1;
+    for reading in readings {
+        writer.put(shown_as(*reading));
     }
-    at + i
 }
 
 // Writes a window, blanks to its right.
-fn write_window(window: &[u8], buffer: &mut [u8], at: usize) -> usize
-    requires { (length window.now ≤ 64) × (at + 64 ≤ length buffer.old) }
-    ensures { Written buffer.old at (left_aligned 64 (map shown window.now)) buffer.new result }
+fn write_window(window: &[u8], writer: &mut Writer<'_>)
+    requires { (length window.now ≤ 64) × RoomFor writer.old (left_aligned 64 (map shown window.now)) }
+    ensures { Appended writer.old (left_aligned 64 (map shown window.now)) writer.new }
 {
-    let window_end = write_shown(window, buffer, at);
-    fill(b' ', WINDOW_COLUMN - window.len(), buffer, window_end)
+    write_shown(window, writer);
+    writer.fill(b' ', WINDOW_COLUMN - window.len());
 }
 
 // Writes the line of a position and its window.
-fn write_line(position: usize, window: &[u8], buffer: &mut [u8], at: usize) -> usize
-    requires { LineFits position window.now buffer.old at }
-    ensures { Written buffer.old at (line position window.now) buffer.new result }
+fn write_line(position: usize, window: &[u8], writer: &mut Writer<'_>)
+    requires { LineFits position window.now writer.old }
+    ensures { Appended writer.old (line position window.now) writer.new }
 {
-    let position_end = write_position(position, buffer, at);
-    buffer[position_end] = b' ';
-    let line_end = write_window(window, buffer, position_end + 1);
-    buffer[line_end] = b'\n';
-    line_end + 1
+    writer.copy(&position_column(position));
+    writer.put(b' ');
+    write_window(window, writer);
+    writer.put(b'\n');
 }
 
 // Writes the lines of the positions on one page, for windows of m readings.
-fn write_page(m: usize, text: &[u8], listed: &[u32], buffer: &mut [u8], at: usize) -> usize
-    requires { PageFits m text.now listed.now buffer.old at }
-    ensures { PageWritten m text.now listed.now buffer.old at buffer.new result }
+fn write_page(m: usize, text: &[u8], listed: &[u32], writer: &mut Writer<'_>)
+    requires { PageFits m text.now listed.now writer.old }
+    ensures { Appended writer.old (flat_map (line_at m text.now) listed.now) writer.new }
 {
-    let mut next = at;
-    let mut i = 0;
-    while i < listed.len() {
-        let s = listed[i] as usize;
-        next = write_line(s, &text[s..s + m], buffer, next);
-        i += 1;
+    for position in listed {
+        let s = *position as usize;
+        write_line(s, &text[s..s + m], writer);
     }
-    next
 }
 
 // Writes what stands before a page: nothing before the first.
-fn write_break(page: usize, buffer: &mut [u8], at: usize) -> usize
-    requires { at + length (break_before page) ≤ length buffer.old }
-    ensures { Written buffer.old at (break_before page) buffer.new result }
+fn write_break(page: usize, writer: &mut Writer<'_>)
+    requires { RoomFor writer.old (break_before page) }
+    ensures { Appended writer.old (break_before page) writer.new }
 {
-    if page == 0 {
-        return at;
+    if page != 0 {
+        writer.put(PAGE_BREAK);
     }
-    buffer[at] = PAGE_BREAK;
-    at + 1
 }
 
 // How many pages so many lines take.
@@ -136,14 +126,12 @@ pub fn write_sheet(m: usize, text: &[u8], listed: &[u32], buffer: &mut [u8]) -> 
     ensures { SheetWritten m text.now listed.now buffer.old buffer.new result }
 {
     let pages = page_count(listed.len());
-    let mut at = 0;
-    let mut page = 0;
-    while page < pages {
+    let mut writer = Writer::new(buffer, 0);
+    for page in 0..pages {
         let first = LINES_A_PAGE * page;
-        let end = least(first + LINES_A_PAGE, listed.len());
-        let page_at = write_break(page, buffer, at);
-        at = write_page(m, text, &listed[first..end], buffer, page_at);
-        page += 1;
+        let end = (first + LINES_A_PAGE).min(listed.len());
+        write_break(page, &mut writer);
+        write_page(m, text, &listed[first..end], &mut writer);
     }
-    at
+    writer.at
 }

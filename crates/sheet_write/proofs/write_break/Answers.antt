@@ -1,15 +1,10 @@
--- `sheet_write::write_break` meets its contract.
-use Rattle.std.proofs.Common.{◌≡◌, arith}
-use Rattle.lent.proofs.Writing.{written_none, written_byte}
-use Rattle.sheet_write.proofs.Pages.{break-later}
+-- `sheet_write::write_break` meets its contract: nothing was written before page 0.
+use mathlib.Core.Path.{◌≡◌}
+use native.Mathlib.Omega.{arith}
+use Rattle.lent.proofs.Appending.{appended_none}
 use Rattle.sheet_write.proofs.write_break.Goals as goal
 
-pub returns-then-page-eq0 : goal.returns-then-page-eq0
-returns-then-page-eq0 c =
+pub returns-else-page-ne0 : goal.returns-else-page-ne0
+returns-else-page-ne0 c =
     let first : c.args.page ≡ 0 = omega arith in
-    rw first (written_none _ _)
-
-pub returns : goal.returns
-returns c =
-    let room = rw (break-later c.args.page (omega arith)) at c.requires in
-    rw (break-later c.args.page (omega arith)) (written_byte _ _ _ (omega (arith, room)))
+    rw first (appended_none c.args.writer.now (omega arith))

@@ -1,77 +1,39 @@
 -- `sheet_write::write_line` meets its contract: the position, a blank, the window, and the newline, one after the other.
-use mathlib.Core.Path.{◌≡◌}
-use mathlib.Core.List.{List, [], ◌∷◌, ◌++◌, map}
-use Prim.Native.Nat.{ℕ, ◌+◌, ◌≤◌, ◌<◌}
-use native.Mathlib.Omega.{arith}
-use lib.ListN.{length, length-append, length-map, length-set}
-use Rattle.lent.proofs.Writing.{written-inside, written-more, written_then, written-length}
-use Rattle.ascii.specs.Decimal.{decimal}
-use Rattle.sheet_form.specs.Sheet.{shown, right_aligned, left_aligned}
-use Rattle.sheet_form.proofs.Lengths.{length-right, length-left, length-position}
-use Rattle.sheet_write.specs.Writing.{LineFits}
+use mathlib.Core.List.{[], ◌∷◌, ◌++◌, map}
+use Rattle.lent.proofs.Appending.{room_first, room_then, appended_then}
+use Rattle.sheet_form.specs.Sheet.{shown, left_aligned}
+use Rattle.sheet_form.proofs.Lengths.{length-position}
 use Rattle.sheet_write.proofs.Columns.{line-parts}
 use Rattle.sheet_write.proofs.write_line.Goals as goal
 
--- the two columns
-abbrev number : (position : ℕ) → List ℕ
-number position = right_aligned 10 (decimal position)
+pub position_column-requires : goal.position_column-requires
+position_column-requires c = length-position c.args.position c.requires.column
 
-abbrev readings : (window : List ℕ) → List ℕ
-readings window = left_aligned 64 (map shown window)
+pub copy-requires : goal.copy-requires
+copy-requires c =
+    rw c.position_column.ensures
+    (room_first ((32 ∷ []) ++ (left_aligned 64 (map shown c.args.window.now) ++ (10 ∷ []))) (rw (line-parts c.args.position c.args.window.now) at c.requires.room))
 
--- the blank has room after the position, and the newline after the window
-module _ {position at : ℕ} {window buffer : List ℕ} (fits : LineFits position window buffer at) where
-  number-length : length (number position) ≡ 10
-  number-length = length-right 10 (decimal position) (length-position position fits.column)
+pub put-requires : goal.put-requires
+put-requires c =
+    let column = rw c.position_column.ensures at c.copy.ensures in
+    room_first (left_aligned 64 (map shown c.args.window.now) ++ (10 ∷ []))
+    (room_then column (rw (line-parts c.args.position c.args.window.now) at c.requires.room))
 
-  readings-length : length (readings window) ≡ 64
-  readings-length = length-left 64 (map shown window) (omega (arith, length-map window shown, fits.short))
-
-  blank-room : at + length (number position) < length buffer
-  blank-room = omega (arith, number-length, fits.room)
-
-  window-room : at + length (number position ++ (32 ∷ [])) ≤ length buffer
-  window-room = omega (arith, length-append (number position) (32 ∷ []), number-length, fits.room)
-
-  newline-room : at + length ((number position ++ (32 ∷ [])) ++ readings window) < length buffer
-  newline-room =
-      omega (
-        arith,
-        length-append (number position ++ (32 ∷ [])) (readings window),
-        length-append (number position) (32 ∷ []),
-        number-length,
-        readings-length,
-        fits.room,
-      )
-
-pub write_position-position_end-requires : goal.write_position-position_end-requires
-write_position-position_end-requires c = (length-position c.args.position c.requires.column, omega (arith, c.requires.room))
-
-pub bounds-buffer-position_end : goal.bounds-buffer-position_end
-bounds-buffer-position_end c = written-inside c.write_position-position_end.ensures (blank-room c.requires)
-
-pub overflow_add-position_end : goal.overflow_add-position_end
-overflow_add-position_end c = omega (arith, c.write_position-position_end.ensures.place, blank-room c.requires)
-
-pub write_window-line_end-requires : goal.write_window-line_end-requires
-write_window-line_end-requires c =
-    let same = written-length c.write_position-position_end.ensures (omega (arith, blank-room c.requires)) in (
+pub write_window-requires : goal.write_window-requires
+write_window-requires c =
+    let column = rw c.position_column.ensures at c.copy.ensures in (
       c.requires.short,
-      simp length-set (omega (arith, same, c.write_position-position_end.ensures.place, number-length c.requires, c.requires.room)),
+      room_first (10 ∷ []) (room_then c.put.ensures (room_then column (rw (line-parts c.args.position c.args.window.now) at c.requires.room))),
     )
 
-pub bounds-buffer-line_end : goal.bounds-buffer-line_end
-bounds-buffer-line_end c =
-    let blank = written-more c.write_position-position_end.ensures (blank-room c.requires) 32 in
-    written-inside (written_then blank c.write_window-line_end.ensures (window-room c.requires)) (newline-room c.requires)
-
-pub overflow_add-result : goal.overflow_add-result
-overflow_add-result c =
-    let blank = written-more c.write_position-position_end.ensures (blank-room c.requires) 32 in
-    omega (arith, (written_then blank c.write_window-line_end.ensures (window-room c.requires)).place, newline-room c.requires)
+pub put-requires-2 : goal.put-requires-2
+put-requires-2 c =
+    let column = rw c.position_column.ensures at c.copy.ensures in
+    room_then c.write_window.ensures (room_then c.put.ensures (room_then column (rw (line-parts c.args.position c.args.window.now) at c.requires.room)))
 
 pub returns : goal.returns
 returns c =
-    let blank = written-more c.write_position-position_end.ensures (blank-room c.requires) 32 in
+    let column = rw c.position_column.ensures at c.copy.ensures in
     rw (line-parts c.args.position c.args.window.now)
-    (written-more (written_then blank c.write_window-line_end.ensures (window-room c.requires)) (newline-room c.requires) 10)
+    (appended_then column (appended_then c.put.ensures (appended_then c.write_window.ensures c.put-2.ensures)))
