@@ -2,23 +2,23 @@
 use mathlib.Core.Path.{◌≡◌, refl, sym, ap, ap₂, ◌∙◌}
 use mathlib.Core.Bool.{Bool, true, false, not, ◌&&◌, true≢false}
 use mathlib.Core.List.{List, [], ◌∷◌}
-use Prim.Native.Nat.{ℕ, ◌+◌, ◌*◌, ◌-◌, ◌≤◌, ◌<◌}
+use Prim.Native.Nat.{ℕ, ◌+◌, ◌*◌, ◌-◌, ◌≤◌}
 use native.Mathlib.Omega.{arith}
 use lib.Dec.{eqb, leb}
 use lib.ListN.{length, get_or}
-use borrow.Author.Tests.{lt-leb, le-leb, leb-true, ne_eqb}
+use borrow.Author.Tests.{leb-true, ne_eqb}
+use Rattle.std.specs.Prelude.{Option, Some, None}
+use Rattle.std.specs.Char.{is_ascii_digit}
 use Rattle.ascii.specs.Decimal.{decimal_value}
 use Rattle.program_request.specs.Line.{digit, method_form, tolerance_form}
+use Rattle.program_request.specs.Reading.{Spelled}
 
 -- ---- a digit
 
-pub digit-below : (b : ℕ) → b < 48 → digit b ≡ false
+-- the library's test is the same
+digit-tested : (b : ℕ) → is_ascii_digit b ≡ digit b
 unfolding digit
-digit-below b l = rw (lt-leb 48 b l) refl
-
-pub digit-from : (b : ℕ) → 48 ≤ b → digit b ≡ leb b 57
-unfolding digit
-digit-from b l = rw (le-leb 48 b l) refl
+digit-tested b = refl
 
 and_left : (a b : Bool) → (a && b) ≡ true → a ≡ true
 and_left true b e = refl
@@ -61,9 +61,6 @@ tolerance-two (a ∷ b ∷ d ∷ F) h = absurd (omega arith)
 pub tolerance-zero : (F : List ℕ) → length F ≡ 2 → get_or F 0 0 ≡ 48 → tolerance_form F ≡ false
 unfolding digit
 tolerance-zero F h e = tolerance-two F h ∙ ap (λ (a : ℕ). digit a && not (eqb a 48) && digit (get_or F 1 0)) e
-
-pub tolerance-no-digit : (F : List ℕ) → length F ≡ 2 → digit (get_or F 0 0) ≡ false → tolerance_form F ≡ false
-tolerance-no-digit F h e = tolerance-two F h ∙ ap (λ (t : Bool). t && not (eqb (get_or F 0 0) 48) && digit (get_or F 1 0)) e
 
 pub tolerance-second : (F : List ℕ) → length F ≡ 2 → (get_or F 0 0 ≡ 48 → ⊥) → digit (get_or F 0 0) ≡ true
     → tolerance_form F ≡ digit (get_or F 1 0)
@@ -118,3 +115,27 @@ spelled-two [] h = omega arith
 spelled-two (a ∷ []) h = omega arith
 spelled-two (a ∷ b ∷ []) h = omega arith
 spelled-two (a ∷ b ∷ d ∷ F) h = omega arith
+
+-- ---- what the code reads in a field
+
+pub method-read : (F : List ℕ) → length F ≡ 1 → {t u : Bool} → t ≡ is_ascii_digit (get_or F 0 0) → t ≡ u → method_form F ≡ u
+method-read F h tested is = method-one F h ∙ sym (digit-tested (get_or F 0 0)) ∙ sym tested ∙ is
+
+pub tolerance-read : (F : List ℕ) → length F ≡ 2 → (get_or F 0 0 ≡ 48 → ⊥) → {t u v : Bool} → t ≡ is_ascii_digit (get_or F 0 0) → t ≡ true
+    → u ≡ is_ascii_digit (get_or F 1 0) → u ≡ v → tolerance_form F ≡ v
+tolerance-read F h some tens is ones last =
+    tolerance-second F h some (sym (digit-tested (get_or F 0 0)) ∙ sym tens ∙ is)
+    ∙ sym (digit-tested (get_or F 1 0)) ∙ sym ones ∙ last
+
+pub tolerance-no-digit : (F : List ℕ) → length F ≡ 2 → {t : Bool} → t ≡ is_ascii_digit (get_or F 0 0) → t ≡ false → tolerance_form F ≡ false
+tolerance-no-digit F h tested is =
+    tolerance-two F h
+    ∙ ap (λ (t : Bool). t && not (eqb (get_or F 0 0) 48) && digit (get_or F 1 0)) (sym (digit-tested (get_or F 0 0)) ∙ sym tested ∙ is)
+
+-- one byte is read as the method's field is
+pub spelled-one-byte : (F : List ℕ) → length F ≡ 1 → (answer : Option ℕ) → Spelled method_form F answer → Spelled tolerance_form F answer
+spelled-one-byte F one None s = tolerance-other F (λ (two : length F ≡ 2). omega arith) ∙ s
+spelled-one-byte F one (Some number) s = (tolerance-other F (λ (two : length F ≡ 2). omega arith) ∙ s.0, s.1)
+
+pub tolerance-none : (F : List ℕ) → (length F ≡ 1 → ⊥) → (length F ≡ 2 → ⊥) → tolerance_form F ≡ false
+tolerance-none F one two = tolerance-other F two ∙ method-other F one

@@ -2,164 +2,109 @@
 
 #![tactic(auto)]
 
-ghost use Rattle.std.specs.Prelude.{◌≡◌, true, ◌+◌, ◌≤◌, length, drop};
-ghost use Rattle.ascii.specs.Decimal.{decimal_value};
-ghost use Rattle.program_request.specs.Line.{before_first, digit, method_form, tolerance_form};
-ghost use Rattle.program_request.specs.Reading.{line_meaning, line_parts};
+ghost use Rattle.std.specs.Prelude.{◌≡◌, false, ◌==◌, MatchOption, position};
+ghost use Rattle.program_request.specs.Line.{has, method_form, tolerance_form};
+ghost use Rattle.program_request.specs.Reading.{Cut, Spelled, line_meaning, line_parts};
 ghost use Rattle.program_request.specs.Request.{less_newline};
 ghost use Rattle.program_request.specs.Parsing.{Parses};
 
-// The place of the first `sought`, or the length where there is none.
-fn find(bytes: &[u8], sought: u8) -> usize
-    ensures { result ≡ length (before_first sought bytes.now) }
+use answers::Refusal;
+
+// The place of the first `sought`.
+fn find(bytes: &[u8], sought: u8) -> Option<usize>
+    ensures { result ≡ position (λ byte. byte == sought) bytes.now }
 {
-    let mut i = 0;
-    while i < bytes.len() {
-        if bytes[i] == sought {
-            return i;
+    bytes.iter().position(|byte| *byte == sought)
+}
+
+// What stands before the first `sought` and what stands after it.
+fn parted(bytes: &[u8], sought: u8) -> Option<(&[u8], &[u8])>
+    ensures { MatchOption result (has sought bytes.now ≡ false) (λ parts. Cut sought bytes.now parts.0.now parts.1.now) }
+{
+    let at = find(bytes, sought)?;
+    Some((&bytes[..at], &bytes[at + 1..]))
+}
+
+// The number in the method's field, where that has its form: one digit.
+fn method_number(field: &[u8]) -> Option<u8>
+    ensures { Spelled method_form field.now result }
+{
+    match field {
+        [digit] if digit.is_ascii_digit() => Some(*digit - b'0'),
+        _ => None,
+    }
+}
+
+// The number in k's field, where that has its form: one digit, or two of which the first is no zero.
+fn tolerance_number(field: &[u8]) -> Option<u8>
+    ensures { Spelled tolerance_form field.now result }
+{
+    match field {
+        [_] => method_number(field),
+        [tens, ones] if *tens != b'0' && tens.is_ascii_digit() && ones.is_ascii_digit() => {
+            Some((*tens - b'0') * 10 + (*ones - b'0'))
         }
-        i += 1;
+        _ => None,
     }
-    i
 }
 
-// A digit of base ten.
-fn is_digit(byte: u8) -> bool
-    ensures { result ≡ digit byte }
-{
-    if byte < b'0' {
-        return false;
-    }
-    byte <= b'9'
+// The fields of the first line.
+struct Line<'a> {
+    method: u8,
+    k: u8,
+    pattern: &'a [u8],
 }
 
-// The method's field has its form: one digit.
-fn is_method_form(field: &[u8]) -> bool
-    ensures { result ≡ method_form field.now }
-{
-    if field.len() != 1 {
-        return false;
-    }
-    is_digit(field[0])
-}
-
-// k's field has its form: one digit, or two of which the first is no zero.
-fn is_tolerance_form(field: &[u8]) -> bool
-    ensures { result ≡ tolerance_form field.now }
-{
-    if field.len() != 2 {
-        return is_method_form(field);
-    }
-    if field[0] == b'0' {
-        return false;
-    }
-    if !is_digit(field[0]) {
-        return false;
-    }
-    is_digit(field[1])
-}
-
-// The number that a field of one or two digits spells.
-fn parse_number(field: &[u8]) -> u8
-    requires { tolerance_form field.now ≡ true }
-    ensures { result ≡ decimal_value 0 field.now }
-{
-    let first = field[0] - b'0';
-    if field.len() == 1 {
-        return first;
-    }
-    first * 10 + (field[1] - b'0')
-}
-
-// The fields of the first line. The pattern stands from `from` on.
-#[derive(Drop)]
-enum FirstLine {
-    // Not of the form asked for: refused with 11.
-    Bad,
-    Fields { method: u8, k: u8, from: usize },
-}
-
-// Reads the first line, which comes without its newline.
-fn first_line(line: &[u8]) -> FirstLine
+// Reads the first line, which comes without its newline; none where it isn't of the form asked for.
+fn first_line(line: &[u8]) -> Option<Line<'_>>
     ensures { line_meaning result ≡ line_parts line.now }
 {
-    let method_end = find(line, b' ');
-    if method_end == line.len() {
-        return FirstLine::Bad;
-    }
-    let k_at = method_end + 1;
-    let k_end = k_at + find(&line[k_at..], b' ');
-    if k_end == line.len() {
-        return FirstLine::Bad;
-    }
-    let method = &line[..method_end];
-    let k = &line[k_at..k_end];
-    if !is_method_form(method) {
-        return FirstLine::Bad;
-    }
-    if !is_tolerance_form(k) {
-        return FirstLine::Bad;
-    }
-    FirstLine::Fields {
-        method: parse_number(method),
-        k: parse_number(k),
-        from: k_end + 1,
-    }
+    let (method_field, fields) = parted(line, b' ')?;
+    let (tolerance_field, pattern) = parted(fields, b' ')?;
+    let method = method_number(method_field)?;
+    let k = tolerance_number(tolerance_field)?;
+    Some(Line { method, k, pattern })
 }
 
 // The longest input that the program takes.
 pub const LONGEST_INPUT: usize = 16384;
 
-// What an input asks for. The pattern stands from `from` up to the newline at `line_end`, the text after that newline up to `end`.
-#[derive(Drop)]
-pub enum Parsed {
-    // Over the longest input: refused with 6.
-    TooLong,
-    // No newline, or a bad first line: refused with 11.
-    BadLine,
-    Request {
-        method: u8,
-        k: u8,
-        from: usize,
-        line_end: usize,
-        end: usize,
-    },
+// What an input asks for. The pattern and the text are parts of it.
+#[derive(Clone, Copy)]
+pub struct Request<'a> {
+    pub method: u8,
+    pub k: u8,
+    pub pattern: &'a [u8],
+    pub text: &'a [u8],
 }
 
-// The end of the text that starts at `start`: one last newline is no part of it.
-fn text_end(input: &[u8], start: usize) -> usize
-    requires { start ≤ length input.now }
-    ensures { result ≡ start + length (less_newline (drop start input.now)) }
+// The text, from what follows the first line: one last newline is no part of it.
+fn less_newline(rest: &[u8]) -> &[u8]
+    ensures { result.now ≡ less_newline rest.now }
 {
-    let end = input.len();
-    if end == start {
-        return end;
+    match rest.split_last() {
+        Some((last, text)) if *last == b'\n' => text,
+        _ => rest,
     }
-    if input[end - 1] == b'\n' {
-        return end - 1;
-    }
-    end
 }
 
 // Reads the program's input: its length is tested before its first line.
-pub fn parse(input: &[u8]) -> Parsed
+pub fn parse(input: &[u8]) -> Result<Request<'_>, Refusal>
     ensures { Parses input.now result }
 {
     if input.len() > LONGEST_INPUT {
-        return Parsed::TooLong;
+        return Err(Refusal::TextTooLong);
     }
-    let line_end = find(input, b'\n');
-    if line_end == input.len() {
-        return Parsed::BadLine;
-    }
-    match first_line(&input[..line_end]) {
-        FirstLine::Bad => Parsed::BadLine,
-        FirstLine::Fields { method, k, from } => Parsed::Request {
-            method,
-            k,
-            from,
-            line_end,
-            end: text_end(input, line_end + 1),
-        },
-    }
+    let Some((line, rest)) = parted(input, b'\n') else {
+        return Err(Refusal::BadRequest);
+    };
+    let Some(Line { method, k, pattern }) = first_line(line) else {
+        return Err(Refusal::BadRequest);
+    };
+    Ok(Request {
+        method,
+        k,
+        pattern,
+        text: less_newline(rest),
+    })
 }
