@@ -20,6 +20,10 @@ module _ (P : List ℕ) (Q : ℕ → Type 0) (lacking : (c : ℕ) → c < 256 �
     pub span-first : Q 0 → Q (min r.low 256)
     span-first q = rw (zero-add (min r.low 256)) at (pass-over 0 (min r.low 256) (omega arith) (λ c l h. spanned.below c (omega arith)) q)
 
+    -- also where it is empty
+    pub span-start : Q 0 → Q (min r.low r.past)
+    span-start q = rw (zero-add (min r.low r.past)) at (pass-over 0 (min r.low r.past) (omega (arith, spanned.bytes)) (λ c l h. spanned.below c (omega arith)) q)
+
     -- and, where it holds at the span's end, of all bytes
     pub span_last : (byte : ℕ) → r.past ≤ byte → Q (min byte 256) → Q 256
     span_last byte past q =

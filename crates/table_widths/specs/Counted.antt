@@ -5,9 +5,8 @@ use Rattle.table_parikh.specs.Table.{parikh}
 use Rattle.table_parikh.specs.Letters.{Spanned}
 use Rattle.table_parikh.specs.declared.Span.{Span}
 
--- The counts and the span of a pattern of at most 64 bytes, whichever it is
-pub record PatternCounted (counts : List ℕ) (span : Span) : Type 0 where
-  pub pattern : List ℕ
+-- The counts and the span of a pattern of at most 64 bytes
+pub record PatternCounted (pattern counts : List ℕ) (span : Span) : Type 0 where
   pub bytes : Bytes pattern
   pub short : length pattern ≤ 64
   pub counts-are : counts ≡ parikh pattern

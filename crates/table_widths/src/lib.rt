@@ -2,12 +2,14 @@
 
 #![tactic(auto)]
 
-ghost use Rattle.std.specs.Prelude.{◌≡◌, ◌≤◌, max, length};
+ghost use Rattle.std.specs.Prelude.{◌≡◌, ◌≤◌, length};
 ghost use Rattle.jumbled.specs.Match.{sum};
 ghost use Rattle.jumbled.specs.Fields.{lg as lg_of, letter_width, layout_of, width_of, bits};
 ghost use Rattle.table_parikh.specs.Table.{parikh};
+ghost use Rattle.methods.specs.Numbers.{method_number};
 ghost use Rattle.table_widths.specs.Counted.{PatternCounted};
 
+use methods::Method;
 use table_parikh::Span;
 
 // lg(v) for v from 0 to 64, each beside its v, as on the printed card: document 02, T-05.
@@ -97,61 +99,91 @@ fn letter_width(count: usize) -> usize
     if count < 64 { lg(count + 1) + 1 } else { 8 }
 }
 
-fn larger(a: usize, b: usize) -> usize
-    ensures { result ≡ max a b }
-{
-    if a < b { b } else { a }
+// A pattern beside a method that may have fields for its bytes, and what the fields' widths are measured from.
+#[derive(Clone, Copy)]
+pub struct PatternFields<'a> {
+    pub pattern: &'a [u8],
+    // How often the pattern has each byte,
+    pub counts: &'a [u8; 256],
+    // and where these bytes are.
+    pub span: Span,
+    pub k: usize,
+    pub method: Method,
+    pub ghost counted: { PatternCounted pattern.now counts.now span },
+    pub ghost tolerance: { k ≤ 64 },
 }
 
-// The width of the field of a byte that the pattern has count times: document 01, "The five methods", 2 to 4, and document 02, T-03.
-pub fn own_width(count: usize, k: usize, method: u8) -> usize
-    requires { (count ≤ 64) × (k ≤ 64) }
-    ensures { result ≡ (layout_of k method).own count }
-{
-    match method {
-        2 | 3 => letter_width(count),
-        4 => lg(larger(count, k)) + 2,
-        _ => 0,
-    }
-}
+impl<'a> PatternFields<'a> {
+    ghost use Rattle.table_widths.specs.Layouts.{layout};
 
-// The width of the field that all other bytes share: 2 to 4 there.
-pub fn shared_width(k: usize, method: u8) -> usize
-    requires { k ≤ 64 }
-    ensures { result ≡ (layout_of k method).common }
-{
-    match method {
-        2 => 1,
-        3 => 2,
-        4 => lg(k) + 2,
-        _ => 0,
-    }
-}
-
-// The bits of the fields of a pattern's own bytes, by how often it has each.
-pub fn own_bits(counts: &[u8; 256], span: Span, k: usize, method: u8) -> usize
-    requires { (PatternCounted counts.now span) × (k ≤ 64) }
-    ensures { (of : PatternCounted counts.now span) → result ≡ sum 256 (width_of of.pattern (layout_of k method)) }
-{
-    let past = span.past;
-    let mut total: usize = 0;
-    for byte in span.low..past {
-        let count = counts[byte] as usize;
-        if 0 < count {
-            total += own_width(count, k, method);
+    // Of a pattern that is counted already.
+    pub fn of(pattern: &'a [u8], counts: &'a [u8; 256], k: usize, method: Method) -> Self
+        requires { (length pattern.now ≤ 64) × (counts.now ≡ parikh pattern.now) × (k ≤ 64) }
+        ensures { (result.pattern.now ≡ pattern.now) × (result.k ≡ k) × (result.method ≡ method) }
+    {
+        PatternFields {
+            pattern,
+            counts,
+            span: table_parikh::span_of(pattern),
+            k,
+            method,
         }
     }
-    total
+
+    // The width of the field of a byte that the pattern has count times: document 01, "The five methods", 2 to 4, and document 02, T-03.
+    #[tactic(auto, using(crate::proofs::Widths::widths), unfolding(jumbled::specs::Fields::layout_of))]
+    pub fn own_width(&self, count: usize) -> usize
+        requires { count ≤ 64 }
+        ensures { result ≡ (layout self.now).own count }
+    {
+        match self.method {
+            Method::Bam | Method::Bam2 => letter_width(count),
+            Method::Abam => lg(count.max(self.k)) + 2,
+            _ => 0,
+        }
+    }
+
+    // The width of the field that all other bytes share: 2 to 4 there.
+    #[tactic(auto, using(crate::proofs::Widths::widths), unfolding(jumbled::specs::Fields::layout_of))]
+    pub fn shared_width(&self) -> usize
+        ensures { result ≡ (layout self.now).common }
+    {
+        match self.method {
+            Method::Bam => 1,
+            Method::Bam2 => 2,
+            Method::Abam => lg(self.k) + 2,
+            _ => 0,
+        }
+    }
+
+    // The bits of the fields of the pattern's own bytes.
+    pub fn own_bits(&self) -> usize
+        ensures { result ≡ sum 256 (width_of self.now.pattern.now (layout self.now)) }
+    {
+        let counts = self.counts;
+        let past = self.span.past;
+        let mut total = 0;
+        for count in &counts[self.span.low.min(past)..past] {
+            let count = *count as usize;
+            if 0 < count {
+                total += self.own_width(count);
+            }
+        }
+        total
+    }
 }
 
 // The bits that all fields need together: document 01, "When a call says no", 5. Only methods 2 to 4 have fields to measure.
-pub fn field_bits(pattern: &[u8], counts: &[u8; 256], k: usize, method: u8) -> usize
+#[tactic(auto, using(crate::proofs::Widths::no_bits))]
+pub fn field_bits(pattern: &[u8], counts: &[u8; 256], k: usize, method: Method) -> usize
     requires { (length pattern.now ≤ 64) × (counts.now ≡ parikh pattern.now) × (k ≤ 64) }
-    ensures { result ≡ bits pattern.now (layout_of k method) }
+    ensures { result ≡ bits pattern.now (layout_of k (method_number method)) }
 {
     match method {
-        2..=4 => own_bits(counts, table_parikh::span_of(pattern), k, method)
-            + shared_width(k, method),
+        Method::Bam | Method::Bam2 | Method::Abam => {
+            let fields = PatternFields::of(pattern, counts, k, method);
+            fields.own_bits() + fields.shared_width()
+        }
         _ => 0,
     }
 }
