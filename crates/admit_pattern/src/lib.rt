@@ -46,7 +46,7 @@ pub fn admit_method(
     if 0 < k && exact_only(taken) {
         return Err(Refusal::ToleranceNotTaken);
     }
-    if 64 < table_widths::field_bits(pattern, counts, k as usize, method) {
+    if 64 < table_widths::field_bits(pattern, counts, k as usize, taken) {
         return Err(Refusal::FieldsTooWide);
     }
     Ok(taken)
