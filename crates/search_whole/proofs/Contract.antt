@@ -6,8 +6,8 @@ use lib.ListN.{length}
 use Rattle.jumbled.specs.Match.{positions}
 use Rattle.jumbled.specs.Steps.{steps}
 use Rattle.lent.specs.Placed.{placed}
-use Rattle.answers.specs.declared.Answer.{Answer}
-use Rattle.answers.specs.Answers.{answer_number, answer_found, answer_inspections}
+use Rattle.answers.specs.Numbers.{answer_number}
+use Rattle.answers.specs.Answers.{Answer, answer_found, answer_inspections}
 use Rattle.answers.proofs.Refused.{IsRefused, is_zero, not-zero}
 use Rattle.search_whole.specs.Whole.{Whole}
 

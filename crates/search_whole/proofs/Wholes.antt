@@ -11,12 +11,11 @@ use Rattle.jumbled.proofs.Admission.{given-later, pattern-numbered, first_chunk}
 use Rattle.jumbled.proofs.Methods.{methods-list}
 use Rattle.lent.specs.Placed.{placed}
 use Rattle.lent.proofs.Placing.{shifted-zero}
-use Rattle.answers.specs.Numbers.{number_of, admission_number}
+use Rattle.std.proofs.Common.{Ok, Err}
+use Rattle.answers.specs.Numbers.{number_of}
 use Rattle.answers.specs.declared.Refusal.{Refusal}
 use Rattle.lent.specs.Found.{Found}
 use Rattle.lent.specs.declared.SearchCounts.{SearchCounts}
-use Rattle.answers.specs.declared.Answer.TheVariants.{Listed, Refused}
-use Rattle.answers.specs.declared.Admission.{Admission}
 use Rattle.answers.proofs.Refused.{number-positive, on-refusal, on-accepted}
 use Rattle.admit_pattern.proofs.Refusing.{refused-first}
 use Rattle.search_whole.specs.Whole.{whole_number, Searched, Whole}
@@ -25,8 +24,7 @@ use Rattle.search_whole.specs.Whole.{whole_number, Searched, Whole}
 
 module _ (P : List ℕ) (k method bytes places : ℕ) where
   -- what the tests of the pattern refuse
-  pub number-early : {admission : Admission} {refusal : Refusal} → admission ≡ Admission.Refused refusal → admission_number admission ≡ given (pattern_tests P k method)
-      → admission_number admission ≡ given (whole_tests P k method bytes places)
+  pub number-early : (refusal : Refusal) → number_of refusal ≡ given (pattern_tests P k method) → number_of refusal ≡ given (whole_tests P k method bytes places)
   unfolding whole_tests
   number-early = refused-first (pattern_tests P k method) (size_tests bytes places) (pattern-numbered P k method)
 
@@ -43,7 +41,7 @@ module _ (P : List ℕ) (k method : ℕ) (T list : List ℕ) where
   whole-late = number-late P k method (length T) (length list)
 
   -- a refusal leaves everything as it was
-  pub whole-refusal : (refusal : Refusal) → number_of refusal ≡ whole_number P k method T list → Whole P k method T list list (Refused refusal)
+  pub whole-refusal : (refusal : Refusal) → number_of refusal ≡ whole_number P k method T list → Whole P k method T list list (Err refusal)
   whole-refusal refusal e =
       record {
         number = e;
@@ -66,7 +64,7 @@ module _ (P : List ℕ) (k method : ℕ) (T list : List ℕ) where
       }
 
   pub whole-listed : whole_number P k method T list ≡ 0 → {after : List ℕ} {r : SearchCounts} → Searched P k method T list after r
-      → Whole P k method T list after (Listed r.found r.inspections)
+      → Whole P k method T list after (Ok r)
   whole-listed e searched =
       record {
         number = sym e;

@@ -6,18 +6,19 @@ use Rattle.jumbled.specs.Refusals.{given, whole_tests}
 use Rattle.table_parikh.specs.Table.{parikh}
 use Rattle.lent.specs.Placed.{placed}
 use Rattle.lent.specs.declared.SearchCounts.{SearchCounts}
-use Rattle.answers.specs.Numbers.{unless_refused}
-use Rattle.answers.specs.Answers.{answer_number, answer_found, answer_inspections}
-use Rattle.answers.specs.declared.Answer.{Answer}
+use Rattle.methods.specs.Numbers.{method_number}
+use Rattle.answers.specs.Numbers.{answer_number, unless_refused}
+use Rattle.answers.specs.Answers.{Answer, answer_found, answer_inspections}
+use Rattle.admit_pattern.specs.declared.Admitted.{Admitted}
 
 -- The number that a whole search gives
 unfoldable pub whole_number : List ℕ → ℕ → ℕ → List ℕ → List ℕ → ℕ
 whole_number P k method T list = given (whole_tests P k method (length T) (length list))
 
--- Nothing is refused, and how often the pattern has each byte
-pub record Taken (P counts : List ℕ) (k method : ℕ) (T list : List ℕ) : Type 0 where
-  pub counted : counts ≡ parikh P
-  pub accepted : whole_number P k method T list ≡ 0
+-- Nothing is refused, and what is taken along says how often the pattern has each byte
+pub record Taken (P : List ℕ) (admitted : Admitted) (k : ℕ) (T list : List ℕ) : Type 0 where
+  pub counted : admitted.counts ≡ parikh P
+  pub accepted : whole_number P k (method_number admitted.method) T list ≡ 0
 
 -- What a search that is not refused says of the text T, and what the list holds before and after it
 pub record Searched (P : List ℕ) (k method : ℕ) (T before after : List ℕ) (r : SearchCounts) : Type 0 where
