@@ -1,29 +1,46 @@
--- A law of what is written into the buffer.
-use mathlib.Core.Path.{◌≡◌, ap, ap₂, subst}
+-- Laws of what is written into the buffer: a number in four bytes, and the room for each part of an image after those before it.
+use mathlib.Core.Path.{◌≡◌, refl}
 use mathlib.Core.List.{List, [], ◌∷◌, ◌++◌}
-use Prim.Native.Nat.{ℕ, ◌+◌, ◌≤◌}
+use Prim.Native.Nat.{ℕ, ◌+◌, ◌/◌, ◌≤◌}
 use native.Mathlib.Omega.{arith}
 use lib.ListN.{length}
-use Rattle.lent.specs.Written.{Written}
-use Rattle.lent.proofs.Writing.{written_then, first_fits}
+use mir.Syntax.{w32}
+use Rattle.std.specs.Int.{to_le_bytes}
+use Rattle.lent.specs.declared.writer.Writer.{Writer}
+use Rattle.lent.specs.Appended.{RoomFor}
+use Rattle.lent.proofs.Appending.{room_from, room_first}
 use Rattle.image_form.specs.Image.{Parts, low_first, contents, image}
 use Rattle.image_form.proofs.Images.{length-image}
 
--- the contents and the four bodies, written one after the other, are the image
-pub written-image : (parts : Parts) {b b₁ b₂ b₃ b₄ after head number : List ℕ} {at₁ at₂ at₃ at₄ next : ℕ}
-    → head ≡ contents (length parts.pattern) (length parts.tail) → number ≡ low_first 4 parts.total
-    → Written b 0 head b₁ at₁ → Written b₁ at₁ parts.pattern b₂ at₂ → Written b₂ at₂ (parts.k ∷ parts.method ∷ []) b₃ at₃
-    → Written b₃ at₃ number b₄ at₄ → Written b₄ at₄ parts.tail after next
-    → 13 + 6 + length parts.pattern + length parts.tail ≤ length b → Written b 0 (image parts) after next
-unfolding image
-written-image parts {b} {after = after} {head} {number} {next = next} head-known number-known first second third fourth fifth room =
-    let settings = parts.k ∷ parts.method ∷ [] in
-    let all : head ++ parts.pattern ++ settings ++ number ++ parts.tail ≡ image parts =
-    ap₂ (λ (h n : List ℕ). h ++ parts.pattern ++ settings ++ n ++ parts.tail) head-known number-known in
-    let whole : 0 + length (head ++ parts.pattern ++ settings ++ number ++ parts.tail) ≤ length b = omega (arith, ap length all, length-image parts) in
-    let to_number = first_fits 0 (head ++ parts.pattern ++ settings ++ number) parts.tail whole in
-    let to-settings = first_fits 0 (head ++ parts.pattern ++ settings) number to_number in
-    let to-pattern = first_fits 0 (head ++ parts.pattern) settings to-settings in
-    let to-head = first_fits 0 head parts.pattern to-pattern in
-    subst (λ (U : List ℕ). Written b 0 U after next) all
-    (written_then (written_then (written_then (written_then first second to-head) third to-pattern) fourth to-settings) fifth to_number)
+pub four-bytes : (n : ℕ) → to_le_bytes w32 n ≡ low_first 4 n
+unfolding low_first
+four-bytes n =
+    let third : n / 65536 ≡ n / 256 / 256 = omega arith in
+    let fourth : n / 16777216 ≡ n / 256 / 256 / 256 = omega arith in
+    rw (third, fourth) refl
+
+-- the first part of an image, and its third
+abbrev head : Parts → List ℕ
+head parts = contents (length parts.pattern) (length parts.tail)
+
+abbrev settings : Parts → List ℕ
+settings parts = parts.k ∷ parts.method ∷ []
+
+-- where the buffer has room for the image, a writer that begins at its start has room for the whole of it, and for its first parts
+module _ (parts : Parts) {writer : Writer} {buffer : List ℕ} (same : writer.buffer.now ≡ buffer) (start : writer.at ≡ 0)
+    (fits : 13 + 6 + length parts.pattern + length parts.tail ≤ length buffer) where
+  pub room-tail : RoomFor writer (head parts ++ parts.pattern ++ settings parts ++ low_first 4 parts.total ++ parts.tail)
+  unfolding image
+  room-tail = let whole : 0 + length (image parts) ≤ length buffer = omega (arith, length-image parts) in room_from same start whole
+
+  pub room-number : RoomFor writer (head parts ++ parts.pattern ++ settings parts ++ low_first 4 parts.total)
+  room-number = room_first parts.tail room-tail
+
+  pub room-settings : RoomFor writer (head parts ++ parts.pattern ++ settings parts)
+  room-settings = room_first (low_first 4 parts.total) room-number
+
+  pub room-pattern : RoomFor writer (head parts ++ parts.pattern)
+  room-pattern = room_first (settings parts) room-settings
+
+  pub room-head : RoomFor writer (head parts)
+  room-head = room_first parts.pattern room-pattern

@@ -4,25 +4,13 @@
 #![tactic(auto)]
 
 ghost use Rattle.std.specs.Prelude.{◌≡◌, ◌+◌, ◌≤◌, length};
-ghost use Rattle.image_form.specs.Image.{parts_with, low_first, contents};
+ghost use Rattle.image_form.specs.Image.{parts_with, contents};
 ghost use Rattle.image_write.specs.Writing.{Encodable, ImageWritten};
 ghost use Rattle.image_write.specs.Saved.{Saved};
 
 use answers::{Refusal, Saving};
 use image_form::HEAD;
-use lent::copy_in;
-
-// A number in four bytes, low byte first.
-fn low_first(n: u32) -> [u8; 4]
-    ensures { result ≡ low_first 4 n }
-{
-    [
-        (n % 256) as u8,
-        (n / 256 % 256) as u8,
-        (n / 256 / 256 % 256) as u8,
-        (n / 256 / 256 / 256 % 256) as u8,
-    ]
-}
+use lent::writer::Writer;
 
 // The first byte and the four entries of an image, with 0 for the lengths of pattern and tail: bytes 2 and 3, 11 and 12.
 const CONTENTS: [u8; HEAD] = [4, 1, 0, 0, 2, 2, 0, 3, 4, 0, 4, 0, 0];
@@ -58,14 +46,13 @@ fn encode<'a>(
     requires { Encodable pattern.now tail.now buffer.old }
     ensures { ImageWritten (parts_with pattern.now k method total tail.now) buffer.old buffer.new result }
 {
-    let contents = contents_of(pattern.len(), tail.len());
-    let settings = [k, method];
-    let number = low_first(total);
-    let pattern_at = copy_in(&contents, buffer, 0);
-    let settings_at = copy_in(pattern, buffer, pattern_at);
-    let number_at = copy_in(&settings, buffer, settings_at);
-    let tail_at = copy_in(&number, buffer, number_at);
-    copy_in(tail, buffer, tail_at)
+    let mut writer = Writer::new(buffer, 0);
+    writer.copy(&contents_of(pattern.len(), tail.len()));
+    writer.copy(pattern);
+    writer.copy(&[k, method]);
+    writer.copy(&total.to_le_bytes());
+    writer.copy(tail);
+    writer.at
 }
 
 // The image of the parts in the buffer's first bytes; 10 where it is longer than the buffer.
@@ -81,8 +68,7 @@ pub fn save_parts<'a>(
     ensures { Saved (parts_with pattern.now k method total tail.now) buffer.old buffer.new result }
 {
     if buffer.len() < image_length(pattern.len(), tail.len()) {
-        return Saving::Refused(Refusal::BufferTooShort);
+        return Err(Refusal::BufferTooShort);
     }
-    let written = encode(pattern, k, method, total, tail, buffer);
-    Saving::Written(written)
+    Ok(encode(pattern, k, method, total, tail, buffer))
 }

@@ -19,4 +19,4 @@ returns c =
     let parts : Parts = parts_with c.args.pattern.now c.args.k c.args.method c.args.total c.args.tail.now in
     let long : length (image parts) ≡ 13 + 6 + length c.args.pattern.now + length c.args.tail.now = omega (arith, length-image parts) in
     saved-written parts c.args.buffer.now
-    (omega (arith, c.if-buffer-image_length.false, c.image_length.ensures, long)) _ c.encode-written.result c.encode-written.ensures
+    (omega (arith, c.if-buffer-image_length.false, c.image_length.ensures, long)) _ c.encode.result c.encode.ensures
