@@ -13,10 +13,9 @@ use Rattle.jumbled.proofs.Admission.{Numbered, given-append, given-append-none, 
 use Rattle.lent.specs.Placed.{placed}
 use Rattle.lent.specs.Written.{Written}
 use Rattle.lent.specs.declared.SearchCounts.{SearchCounts}
-use Rattle.answers.specs.Numbers.{number_of, admission_number}
+use Rattle.std.specs.Prelude.{Ok, Err}
+use Rattle.answers.specs.Numbers.{number_of}
 use Rattle.answers.specs.declared.Refusal.{Refusal}
-use Rattle.answers.specs.declared.Admission.{Admission}
-use Rattle.answers.specs.declared.SheetAnswer.TheVariants as SheetAnswer
 use Rattle.answers.proofs.Refused.{IsRefused, number-positive, on-refusal, on-accepted}
 use Rattle.admit_pattern.proofs.Refusing.{refused-first}
 use Rattle.search_whole.specs.Whole.{whole_number, Searched}
@@ -31,8 +30,7 @@ module _ (P : List ℕ) (k method : ℕ) (T list buffer : List ℕ) where
   whole-tests = whole-numbered P k method (length T) (length list)
 
   -- what the whole search refuses is refused with its number,
-  pub number-early : {admission : Admission} {refusal : Refusal} → admission ≡ Admission.Refused refusal → admission_number admission ≡ whole_number P k method T list
-      → admission_number admission ≡ number
+  pub number-early : (refusal : Refusal) → number_of refusal ≡ whole_number P k method T list → number_of refusal ≡ number
   unfolding whole_sheet_number sheet_tests whole_number
   number-early = refused-first (whole_tests P k method (length T) (length list)) (buffer_tests (length buffer) (length (sheet_of P k T))) whole-tests
 
@@ -65,7 +63,7 @@ module _ (P : List ℕ) (k method : ℕ) (T list buffer : List ℕ) where
   -- ---- the answers
 
   -- a refusal leaves everything as it was
-  pub sheet-refusal : (refusal : Refusal) → number_of refusal ≡ number → WholeSheet P k method T list list buffer buffer (SheetAnswer.Refused refusal)
+  pub sheet-refusal : (refusal : Refusal) → number_of refusal ≡ number → WholeSheet P k method T list list buffer buffer (Err refusal)
   sheet-refusal refusal e =
       record {
         number = e;
@@ -78,7 +76,7 @@ module _ (P : List ℕ) (k method : ℕ) (T list buffer : List ℕ) where
       }
 
   pub sheet-written : number ≡ 0 → {list' : List ℕ} {r : SearchCounts} → Searched P k method T list list' r → {buffer' : List ℕ} {len : ℕ}
-      → Written buffer 0 (sheet_of P k T) buffer' len → WholeSheet P k method T list list' buffer buffer' (SheetAnswer.Written r.found r.inspections len)
+      → Written buffer 0 (sheet_of P k T) buffer' len → WholeSheet P k method T list list' buffer buffer' (Ok (record { found = r.found; inspections = r.inspections; len = len }))
   sheet-written e searched written =
       record {
         number = sym e;

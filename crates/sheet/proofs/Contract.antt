@@ -9,9 +9,8 @@ use Rattle.jumbled.specs.Steps.{steps}
 use Rattle.jumbled.proofs.Never.{never-given, sheet-not-5}
 use Rattle.lent.specs.Placed.{placed, FirstPlaces}
 use Rattle.lent.proofs.Placing.{first-places}
-use Rattle.answers.specs.Answers.{answer_number, answer_found, answer_inspections, sheet_number, sheet_found, sheet_inspections, sheet_length}
-use Rattle.answers.specs.declared.Answer.{Answer}
-use Rattle.answers.specs.declared.SheetAnswer.{SheetAnswer}
+use Rattle.answers.specs.Numbers.{answer_number}
+use Rattle.answers.specs.Answers.{Answer, answer_found, answer_inspections, SheetAnswer, sheet_found, sheet_inspections, sheet_length}
 use Rattle.answers.proofs.Refused.{IsRefused, is_zero, not-zero}
 use Rattle.search_whole.specs.Whole.{whole_number, Whole}
 use Rattle.search_whole.proofs.Contract.{whole-accepted}
@@ -45,7 +44,7 @@ pub record AsWhole (left : List ℕ) (r : SheetAnswer) (after : List ℕ) (answe
 
 module _ {P : List ℕ} {k method : ℕ} {T list list' buffer buffer' : List ℕ} {r : SheetAnswer}
     (contract : WholeSheet P k method T list list' buffer buffer' r) where
-  pub sheet-accepted : sheet_number r ≡ 0 → SheetAccepted P k method T list list' buffer buffer' r
+  pub sheet-accepted : answer_number r ≡ 0 → SheetAccepted P k method T list list' buffer buffer' r
   sheet-accepted ok =
       let none = is_zero contract.number ok in
       let found : sheet_found r ≡ length (positions P k T) = rw none at contract.found in
@@ -62,7 +61,7 @@ module _ {P : List ℕ} {k method : ℕ} {T list list' buffer buffer' : List ℕ
         by-steps = contract.by-steps none;
       }
 
-  pub sheet-refused : IsRefused (sheet_number r) → NothingPrinted list list' buffer buffer' r
+  pub sheet-refused : IsRefused (answer_number r) → NothingPrinted list list' buffer buffer' r
   sheet-refused refusal =
       record {
         found = rw (not-zero contract.number refusal) at contract.found;
@@ -73,7 +72,7 @@ module _ {P : List ℕ} {k method : ℕ} {T list list' buffer buffer' : List ℕ
       }
 
   -- accepted, it is the whole search: any whole search of the same terms and list answers the same and leaves the same list,
-  pub as-whole : sheet_number r ≡ 0 → {after : List ℕ} {answer : Answer} → Whole P k method T list after answer → AsWhole list' r after answer
+  pub as-whole : answer_number r ≡ 0 → {after : List ℕ} {answer : Answer} → Whole P k method T list after answer → AsWhole list' r after answer
   as-whole ok {after} {answer} whole =
       let here = sheet-accepted ok in
       let none = is_zero contract.number ok in
@@ -86,24 +85,24 @@ module _ {P : List ℕ} {k method : ℕ} {T list list' buffer buffer' : List ℕ
       }
 
   -- and the positions in the list's first places are those of the method's own steps
-  pub listed-by-steps : sheet_number r ≡ 0 → take (sheet_found r) list' ≡ (steps P k method T).occurrences
+  pub listed-by-steps : answer_number r ≡ 0 → take (sheet_found r) list' ≡ (steps P k method T).occurrences
   listed-by-steps ok = (sheet-accepted ok).places.first ∙ sym (sheet-accepted ok).by-steps
 
   -- what the whole search refuses is refused with its number, whatever the buffer;
-  pub earlier-first : IsRefused (whole_number P k method T list) → sheet_number r ≡ whole_number P k method T list
+  pub earlier-first : IsRefused (whole_number P k method T list) → answer_number r ≡ whole_number P k method T list
   earlier-first refusal = contract.number ∙ number-whole P k method T list buffer refusal
 
   -- what it does not refuse is refused with 10 where the buffer is shorter than the sheet,
-  pub ten-last : whole_number P k method T list ≡ 0 → length buffer < length (sheet_of P k T) → sheet_number r ≡ 10
+  pub ten-last : whole_number P k method T list ≡ 0 → length buffer < length (sheet_of P k T) → answer_number r ≡ 10
   ten-last accepted short = contract.number ∙ number_short P k method T list buffer accepted short
 
   -- and accepted where it is not
-  pub fits-accepted : whole_number P k method T list ≡ 0 → length (sheet_of P k T) ≤ length buffer → sheet_number r ≡ 0
+  pub fits-accepted : whole_number P k method T list ≡ 0 → length (sheet_of P k T) ≤ length buffer → answer_number r ≡ 0
   fits-accepted accepted room = contract.number ∙ number-none P k method T list buffer accepted room
 
 -- 5 never comes from method 6 (document 02, T-04)
 pub sheet-never-5 : {P : List ℕ} {k : ℕ} {T list list' buffer buffer' : List ℕ} {r : SheetAnswer} → WholeSheet P k 6 T list list' buffer buffer' r
-    → sheet_number r ≡ 5 → ⊥
+    → answer_number r ≡ 5 → ⊥
 unfolding whole_sheet_number
 sheet-never-5 {P} {k} {T} {list} {buffer = buffer} contract e =
     never-given (sheet-not-5 P k (length T) (length list) (length buffer) (length (sheet_of P k T))) (sym contract.number ∙ e)

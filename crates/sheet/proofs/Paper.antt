@@ -5,8 +5,8 @@ use mathlib.Core.List.{List, []}
 use Prim.Native.Nat.{ℕ, ◌<◌}
 use lib.ListN.{length, get_or, take}
 use Rattle.jumbled.specs.Match.{positions}
-use Rattle.answers.specs.Answers.{sheet_number, sheet_length}
-use Rattle.answers.specs.declared.SheetAnswer.{SheetAnswer}
+use Rattle.answers.specs.Numbers.{answer_number}
+use Rattle.answers.specs.Answers.{SheetAnswer, sheet_length}
 use Rattle.answers.proofs.Refused.{is_zero}
 use Rattle.search_whole.specs.Whole.{whole_number}
 use Rattle.sheet_form.specs.Sheet.{on_page, page_count, sheet_bytes}
@@ -20,7 +20,7 @@ use Rattle.sheet.proofs.Answers.{whole-taken-too}
 use Rattle.sheet.proofs.Contract.{SheetAccepted, sheet-accepted}
 
 module _ {P : List ℕ} {k method : ℕ} {T list list' buffer buffer' : List ℕ} {r : SheetAnswer}
-    (contract : WholeSheet P k method T list list' buffer buffer' r) (ok : sheet_number r ≡ 0) where
+    (contract : WholeSheet P k method T list list' buffer buffer' r) (ok : answer_number r ≡ 0) where
   accepted : SheetAccepted P k method T list list' buffer buffer' r
   accepted = sheet-accepted contract ok
 
@@ -49,12 +49,12 @@ module _ {P : List ℕ} {k method : ℕ} {T list list' buffer buffer' : List ℕ
 
 pub read_back : {P : List ℕ} {k method : ℕ} {T list list' buffer buffer' : List ℕ} {r : SheetAnswer}
     → WholeSheet P k method T list list' buffer buffer' r
-    → sheet_number r ≡ 0
+    → answer_number r ≡ 0
     → ReadBack list' buffer' r
 read_back contract ok = all_read contract ok
 
 -- two accepted calls for one pattern, k and text print the same sheet, whatever their methods
 pub same-sheet : {P : List ℕ} {k method method₂ : ℕ} {T list list' buffer buffer' list₂ list₂' buffer₂ buffer₂' : List ℕ} {r r₂ : SheetAnswer}
     → WholeSheet P k method T list list' buffer buffer' r → WholeSheet P k method₂ T list₂ list₂' buffer₂ buffer₂' r₂
-    → sheet_number r ≡ 0 → sheet_number r₂ ≡ 0 → take (sheet_length r) buffer' ≡ take (sheet_length r₂) buffer₂'
+    → answer_number r ≡ 0 → answer_number r₂ ≡ 0 → take (sheet_length r) buffer' ≡ take (sheet_length r₂) buffer₂'
 same-sheet contract contract₂ ok ok₂ = (sheet-accepted contract ok).bytes.first ∙ sym (sheet-accepted contract₂ ok₂).bytes.first

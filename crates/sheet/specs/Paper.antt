@@ -1,7 +1,6 @@
 -- What can be told from the paper alone: document 02, T-02.
 use Rattle.std.specs.Prelude.{◌≡◌, List, [], ℕ, ◌<◌, length, get_or, take}
-use Rattle.answers.specs.Answers.{sheet_found, sheet_length}
-use Rattle.answers.specs.declared.SheetAnswer.{SheetAnswer}
+use Rattle.answers.specs.Answers.{SheetAnswer, sheet_found, sheet_length}
 use Rattle.sheet_form.specs.Sheet.{on_page, page_count, sheet_bytes}
 use Rattle.sheet_form.specs.Reading.{pages_on, read_page, read_sheet}
 

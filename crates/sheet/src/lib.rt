@@ -4,8 +4,7 @@
 
 ghost use Rattle.sheet.specs.Whole.{WholeSheet};
 
-use answers::Admission;
-pub use answers::{Refusal, SheetAnswer, number_of};
+pub use answers::{Refusal, SheetAnswer, SheetCounts, number_of};
 
 // All of the text at once: the positions in the list's first places, and their sheet in the buffer's first bytes.
 pub fn whole(
@@ -19,22 +18,17 @@ pub fn whole(
     ensures { WholeSheet pattern.now k method text.now list.old list.new buffer.old
         buffer.new result }
 {
-    let admitted = search_whole::admit(pattern, k, method, text.len(), list.len());
-    let admission = admitted.admission;
-    if let Admission::Refused(refusal) = admission {
-        return SheetAnswer::Refused(refusal);
-    }
-    let counts = admitted.counts;
+    let admitted = search_whole::admit(pattern, k, method, text.len(), list.len())?;
     // Counted before the search, which writes the list: a sheet that is too long must leave the list as it was.
-    let lines = sheet_count::count_matches(pattern, &counts, k as usize, text);
+    let lines = sheet_count::count_matches(pattern, &admitted.counts, k as usize, text);
     if buffer.len() < sheet_write::sheet_length(lines) {
-        return SheetAnswer::Refused(Refusal::BufferTooShort);
+        return Err(Refusal::BufferTooShort);
     }
-    let searched = search_whole::search_accepted(pattern, &counts, k, method, text, list);
+    let searched = search_whole::search_accepted(pattern, &admitted, k, text, list);
     let len = sheet_write::write_sheet(pattern.len(), text, &list[..lines], buffer);
-    SheetAnswer::Written {
+    Ok(SheetCounts {
         found: searched.found,
         inspections: searched.inspections,
         len,
-    }
+    })
 }
