@@ -7,25 +7,15 @@ ghost use Rattle.jumbled.specs.Refusals.{given, tail_length, search_tests};
 ghost use Rattle.admit_pattern.specs.Admits.{Admits};
 ghost use Rattle.search_state.specs.Stored.{padded, last_of};
 
-use admit_pattern::AdmittedPattern;
-use answers::{Admission, Refusal};
+use admit_pattern::Admitted;
+use answers::Refusal;
 
-// Source in the first places of an array of 64, the others 0.
-pub fn stored_pattern(source: &[u8]) -> [u8; 64]
-    requires { length source.now ≤ 64 }
-    ensures { result ≡ padded 64 source.now }
+// Source in the first places of an array, the others 0: a pattern in 64, a tail in 63.
+pub fn stored<const N: usize>(source: &[u8]) -> [u8; N]
+    requires { length source.now ≤ N }
+    ensures { result ≡ padded N source.now }
 {
-    let mut bytes = [0u8; 64];
-    lent::copy_in(source, &mut bytes, 0);
-    bytes
-}
-
-// Source in the first places of an array of 63, the others 0.
-pub fn stored_tail(source: &[u8]) -> [u8; 63]
-    requires { length source.now ≤ 63 }
-    ensures { result ≡ padded 63 source.now }
-{
-    let mut bytes = [0u8; 63];
+    let mut bytes = [0u8; N];
     lent::copy_in(source, &mut bytes, 0);
     bytes
 }
@@ -37,7 +27,7 @@ pub fn next_tail(tail: &[u8], chunk: &[u8], keep: usize) -> [u8; 63]
 {
     if keep <= chunk.len() {
         let from = chunk.len() - keep;
-        return stored_tail(&chunk[from..]);
+        return stored(&chunk[from..]);
     }
     let mut bytes = [0u8; 63];
     let from = tail.len() + chunk.len() - keep;
@@ -51,19 +41,22 @@ pub fn tail_length(m: usize, total: usize) -> usize
     requires { 1 ≤ m }
     ensures { result ≡ tail_length m total }
 {
-    lent::least(total, m - 1)
+    total.min(m - 1)
 }
 
 // The tests of a search's parts, with a tail of so many bytes: those of open, then 9.
-pub fn admit_parts(pattern: &[u8], k: u8, method: u8, total: u32, tail: usize) -> AdmittedPattern
-    ensures { Admits pattern.now (given (search_tests pattern.now k method total tail)) result }
+pub fn admit_parts(
+    pattern: &[u8],
+    k: u8,
+    method: u8,
+    total: u32,
+    tail: usize,
+) -> Result<Admitted, Refusal>
+    ensures { Admits pattern.now method (given (search_tests pattern.now k method total tail)) result }
 {
-    let admitted = admit_pattern::admit(pattern, k, method);
-    if let Admission::Refused(_) = &admitted.admission {
-        return admitted;
-    }
+    let admitted = admit_pattern::admit(pattern, k, method)?;
     if tail != tail_length(pattern.len(), total as usize) {
-        return admit_pattern::refused_pattern(Refusal::Malformed);
+        return Err(Refusal::Malformed);
     }
-    admitted
+    Ok(admitted)
 }
