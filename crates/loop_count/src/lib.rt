@@ -62,6 +62,7 @@ impl Forward for Count<'_> {
         let mut at = range.at;
         let mut inspections = 0;
         let mut next = range.end;
+        // By number: the start itself is listed, and a range with no window may begin where the text has no part to be zipped.
         for s in range.first..range.end {
             if list.len() <= at {
                 next = s; // no place is left
