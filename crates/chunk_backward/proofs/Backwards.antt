@@ -7,6 +7,7 @@ use lib.ListN.{length, take}
 use Rattle.jumbled.specs.Scan.{Result, Scanned, backward, standing, scans, driven_into, through}
 use Rattle.jumbled.proofs.Cuts.{◌then◌, moved, backward-within, backward-count, backward-most, through-between}
 use Rattle.lent.specs.Loops.{Listed}
+use Rattle.lent.specs.Found.{Found}
 use Rattle.loop_backward.specs.declared.Reached.{Reached}
 use Rattle.loop_backward.specs.Ranges.{RangeScanned}
 use Rattle.loop_backward.proofs.Windows.{SearchedAll, searched-all}
@@ -15,7 +16,7 @@ use Rattle.chunk_seam.specs.Joined.{Prepared, joined}
 use Rattle.chunk_seam.proofs.Joins.{from_zero}
 use Rattle.chunk_seam.proofs.Prepared.{all-starts, inside, full, tail-fitting, tail-room, tail-places, some-place, places-left, found-two, inspections-fit}
 use Rattle.chunk_seam.proofs.Full.{into-joined}
-use Rattle.chunk_backward.specs.Scans.{rest_of, FoundBy}
+use Rattle.chunk_backward.specs.Scans.{rest_of}
 use Rattle.chunk_backward.proofs.Joins.{backward-joined, backward-rest}
 
 -- the seam's windows were searched, for which the list has places, and then the rest of the chunk's
@@ -82,7 +83,7 @@ module _ {m : ℕ} {seam chunk : List ℕ} {split : Split} {list : List ℕ} (re
     over-chunk = searched'.listed
 
     -- both together are one search of the tail followed by the chunk, by whatever scan
-    pub both_found : FoundBy scanned m seam chunk split list after (record { found = r'.at; inspections = r.inspections + r'.inspections })
+    pub both_found : Found (driven_into (length list) (scans scanned) m (joined split seam chunk)) split.over_tail.base list after (record { found = r'.at; inspections = r.inspections + r'.inspections })
     unfolding one first gone
     both_found =
         found-two ready one few over-tail.listed (backward scanned m chunk first gone 0) over-chunk

@@ -4,17 +4,19 @@ use mathlib.Core.List.{List}
 use mathlib.Core.Logic.{⊎_elim}
 use Prim.Native.Nat.{ℕ, ◌≤◌, ◌<◌}
 use native.Mathlib.Omega.{arith}
-use lib.ListN.{length}
+use lib.ListN.{length, get_or}
+use Rattle.std.proofs.Common.{Fits, w8}
 use borrow.Author.Tests.{eq-eqb, ne_eqb}
-use Rattle.jumbled.specs.Fields.{Layout, bam_layout, bam2_layout, abam_layout, layout_of, bits}
+use Rattle.jumbled.specs.Fields.{Layout, layout_of, bits}
 use Rattle.jumbled.specs.Steps.{bam_scan, bam2_scan, abam_scan}
+use Rattle.jumbled.specs.Refusals.{given, method_tests}
+use Rattle.jumbled.proofs.Admission.{method-taken}
 use Rattle.jumbled.proofs.Sums.{below_or_not}
 use Rattle.jumbled.proofs.Methods.{bam-most, bam2-most, abam-most}
-use Rattle.table_widths.proofs.Widths.{layout-2, layout-3, layout-4}
-use Rattle.table_packed.specs.Word.{Packed, OwnTops}
+use Rattle.table_packed.specs.Word.{Packed, Packable}
 use Rattle.table_packed.specs.declared.Word.{Word}
-use Rattle.loop_backward.specs.Ranges.{Scannable, ScannableByTops}
-use Rattle.chunk_backward.specs.Scans.{scan_of, Tabled}
+use Rattle.loop_backward.specs.Ranges.{Scannable}
+use Rattle.chunk_backward.specs.Scans.{scan_of}
 
 pub scan-2 : (P : List ℕ) (k method : ℕ) → method ≡ 2 → scan_of P k method ≡ bam_scan P
 unfolding scan_of
@@ -46,26 +48,23 @@ scan-inspections P k method short W h =
 
 -- ---- the tables by the method's number, as each loop asks for them
 
-module _ {P : List ℕ} {k method : ℕ} {word : Word} {units tops : List ℕ} (tables : Tabled P k method word units tops) where
-  abbrev scannable : (L : Layout) → layout_of k method ≡ L → Scannable L (length P) word units
-  scannable L e =
+module _ {P : List ℕ} {k method : ℕ} {word : Word} {units : List ℕ} (packable : Packable P k method) (pattern : (i : ℕ) → Fits w8 (get_or P i 0))
+    (packed : Packed P (layout_of k method) word units) where
+  pub scannable : {L : Layout} → layout_of k method ≡ L → Scannable P L word units
+  scannable e =
       record {
-        of = P;
-        bytes = tables.bytes;
-        sized = refl;
-        packed = subst (λ (M : Layout). Packed P M word units) e tables.packed;
-        fits = subst (λ (M : Layout). bits P M ≤ 64) e tables.packable.fits;
+        bytes = record { below = λ i. omega (arith, pattern i) };
+        packed = subst (λ (M : Layout). Packed P M word units) e packed;
+        fits = subst (λ (M : Layout). bits P M ≤ 64) e packable.fits;
       }
 
-  abbrev pub tables-2 : method ≡ 2 → Scannable bam_layout (length P) word units
-  tables-2 e = scannable bam_layout (layout-2 k method e)
-
-  abbrev pub tables-3 : method ≡ 3 → Scannable bam2_layout (length P) word units
-  tables-3 e = scannable bam2_layout (layout-3 k method e)
-
-  abbrev pub tables-4 : method ≡ 4 → ScannableByTops (abam_layout k) (length P) word units tops
-  tables-4 e =
-      record {
-        scannable = scannable (abam_layout k) (layout-4 k method e);
-        own-tops = subst (λ (M : Layout). OwnTops P M tops) (layout-4 k method e) (tables.own-tops e);
-      }
+-- what 2 to 5 do not refuse can have its tables made
+pub packable : {P : List ℕ} {k method : ℕ} → length P ≤ 64 → k < length P → given (method_tests P k method) ≡ 0 → 2 ≤ method → method ≤ 4 → Packable P k method
+packable {P} {k} {method} short within taken least most =
+    record {
+      short = short;
+      tolerance = omega arith;
+      from = least;
+      to = most;
+      fits = (method-taken P k method taken).narrow;
+    }

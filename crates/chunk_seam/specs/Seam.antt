@@ -1,7 +1,8 @@
-use Rattle.std.specs.Prelude.{ℕ, List, length, replicate}
+-- How a seam keeps its bytes.
+use Rattle.std.specs.Prelude.{◌≡◌, List, ℕ, ◌≤◌, replicate, take}
 use Rattle.lent.specs.Placed.{placed}
-use Rattle.chunk_seam.specs.declared.Seam as S
 
--- The seam that holds the bytes U: they stand in its first places, and every other place is 0
-abbrev pub seam_of : List ℕ → S.Seam
-seam_of U = record { bytes = placed (replicate 128 0) 0 U; len = length U }
+-- They are in the first `len` of 128 places, and every other place is 0
+pub record Kept (bytes : List ℕ) (len : ℕ) : Type 0 where
+  pub inside : len ≤ 128
+  pub zeros : bytes ≡ placed (replicate 128 0) 0 (take len bytes)

@@ -3,10 +3,10 @@
 #![tactic(auto)]
 
 ghost use Rattle.std.specs.Prelude.{◌≡◌, ◌++◌, ◌+◌, ◌-◌, ◌^◌, ◌≤◌, ◌<◌, length, take};
-ghost use Rattle.chunk_seam.specs.Seam.{seam_of};
 ghost use Rattle.chunk_seam.specs.Joined.{Parted};
 
 use lent::{Range, copy_in};
+use std::marker::Model;
 
 // The windows of a tail and of the chunk after it.
 #[derive(Clone, Copy)]
@@ -52,21 +52,41 @@ pub struct Joined<'a> {
     pub split: Split,
 }
 
-// The tail and the first bytes of a chunk: all that the windows which start in the tail reach. The bytes past these are 0.
+// The tail and the first bytes of a chunk: all that the windows which start in the tail reach. The places past these hold 0.
 #[derive(Drop)]
 pub struct Seam {
-    pub bytes: [u8; 128],
-    pub len: usize,
+    places: [u8; 128],
+    len: usize,
+}
+
+impl Model for Seam {
+    ghost use Rattle.std.specs.Prelude.{List, ℕ, take};
+    ghost use Rattle.chunk_seam.specs.Seam.{Kept};
+
+    ghost Value = { List ℕ };
+
+    ghost view = { λ seam. take seam.len seam.places };
+
+    ghost invariant = { λ seam. Kept seam.places seam.len };
+}
+
+impl Seam {
+    // Its bytes.
+    pub fn bytes(&self) -> &[u8]
+        ensures { result.now ≡ self.now }
+    {
+        &self.places[..self.len]
+    }
 }
 
 // The tail and as much of the chunk as a window that starts in the tail can reach.
 pub fn seam_of(tail: &[u8], chunk: &[u8], m: usize) -> Seam
     requires { (length tail.now < m) × (m ≤ 64) }
-    ensures { result ≡ seam_of (tail.now ++ take (m - 1) chunk.now) }
+    ensures { result ≡ tail.now ++ take (m - 1) chunk.now }
 {
-    let count = chunk.len().min(m - 1);
-    let mut bytes = [0u8; 128];
-    let tail_end = copy_in(tail, &mut bytes, 0);
-    let len = copy_in(&chunk[..count], &mut bytes, tail_end);
-    Seam { bytes, len }
+    let count = (m - 1).min(chunk.len());
+    let mut places = [0u8; 128];
+    let tail_end = copy_in(tail, &mut places, 0);
+    let len = copy_in(&chunk[..count], &mut places, tail_end);
+    Seam { places, len }
 }

@@ -1,3 +1,3 @@
-pub mod Prepared
 pub mod Steps
+pub mod Prepared
 pub mod Room

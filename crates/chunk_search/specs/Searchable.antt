@@ -5,8 +5,8 @@ use Rattle.jumbled.specs.Refusals.{given, method_tests}
 use Rattle.table_parikh.specs.Table.{parikh}
 use Rattle.lent.specs.Found.{Found}
 use Rattle.lent.specs.declared.SearchCounts.{SearchCounts}
-use Rattle.chunk_seam.specs.declared.Split.{Split}
-use Rattle.chunk_seam.specs.Joined.{Joinable, Prepared, joined}
+use Rattle.chunk_seam.specs.declared.Joined.{Joined}
+use Rattle.chunk_seam.specs.Joined.{Joinable, PreparedIn, text_of}
 
 -- How often the pattern has each byte, and a tolerance and a method that 2 to 5 do not refuse
 pub record Taken (P counts : List ℕ) (k method : ℕ) : Type 0 where
@@ -20,8 +20,8 @@ pub record Searchable (P counts : List ℕ) (k method : ℕ) (tail chunk : List 
   pub taken : Taken P counts k method
 
 -- The same once they were made ready
-pub record SplitSearchable (P counts : List ℕ) (k method : ℕ) (seam chunk : List ℕ) (split : Split) (list : List ℕ) : Type 0 where
-  pub prepared : Prepared (length P) seam chunk split list
+pub record SplitSearchable (P counts : List ℕ) (k method : ℕ) (j : Joined) (list : List ℕ) : Type 0 where
+  pub prepared : PreparedIn (length P) j list
   pub taken : Taken P counts k method
 
 -- The method's steps over a text were made, up to where the list is full
@@ -29,5 +29,5 @@ abbrev pub Stepped : List ℕ → (k method : ℕ) → List ℕ → (base : ℕ)
 Stepped P k method T base before after r = Found (steps_into (length before) P k method T) base before after r
 
 -- over the seam and then the chunk
-abbrev pub SplitStepped : List ℕ → (k method : ℕ) → (seam chunk : List ℕ) → Split → (before after : List ℕ) → SearchCounts → Type 0
-SplitStepped P k method seam chunk split before after r = Stepped P k method (joined split seam chunk) split.over_tail.base before after r
+abbrev pub SplitStepped : List ℕ → (k method : ℕ) → Joined → (before after : List ℕ) → SearchCounts → Type 0
+SplitStepped P k method j before after r = Stepped P k method (text_of j) j.split.over_tail.base before after r

@@ -3,26 +3,28 @@
 #![tactic(auto)]
 
 ghost use Rattle.std.specs.Prelude.{◌++◌};
+ghost use Rattle.methods.specs.Numbers.{method_number};
 ghost use Rattle.chunk_search.specs.Searchable.{Searchable, SplitSearchable, Stepped, SplitStepped};
 
 use chunk_backward::{backward_chunk, ebl_chunk};
 use chunk_forward::{count_chunk, hcam_chunk};
-use chunk_seam::{Split, seam_of, split_starts};
+use chunk_seam::{Joined, seam_of, split_starts};
 pub use lent::SearchCounts;
+use methods::Method;
 
 // The steps of any method over a tail followed by a chunk; counts says how often the pattern has each byte.
 pub fn search_chunk(
     pattern: &[u8],
     counts: &[u8; 256],
     k: u8,
-    method: u8,
+    method: Method,
     tail: &[u8],
     chunk: &[u8],
     base: usize,
     list: &mut [u32],
 ) -> SearchCounts
-    requires { Searchable pattern.now counts.now k method tail.now chunk.now base list.old }
-    ensures { Stepped pattern.now k method (tail.now ++ chunk.now) base list.old list.new result }
+    requires { Searchable pattern.now counts.now k (method_number method) tail.now chunk.now base list.old }
+    ensures { Stepped pattern.now k (method_number method) (tail.now ++ chunk.now) base list.old list.new result }
 {
     let split = split_starts(pattern.len(), tail.len(), chunk.len(), base);
     // Without a window no tables are made.
@@ -33,44 +35,33 @@ pub fn search_chunk(
         };
     }
     let seam = seam_of(tail, chunk, pattern.len());
-    let bytes = seam.bytes;
-    let len = seam.len;
-    search_split(
-        pattern,
-        counts,
-        k,
-        method,
-        &bytes[..len],
+    let joined = Joined {
+        seam: seam.bytes(),
         chunk,
         split,
-        list,
-    )
+    };
+    search_split(pattern, counts, k, method, joined, list)
 }
 
 // The steps of a method over the seam and then the chunk.
+#[tactic(auto, using(chunk_backward::proofs::Scans::packable), unfolding(jumbled::specs::Steps::steps_into, jumbled::specs::Steps::way_of, chunk_backward::specs::Scans::scan_of))]
 fn search_split(
     pattern: &[u8],
     counts: &[u8; 256],
     k: u8,
-    method: u8,
-    seam: &[u8],
-    chunk: &[u8],
-    split: Split,
+    method: Method,
+    joined: Joined,
     list: &mut [u32],
 ) -> SearchCounts
-    requires { SplitSearchable pattern.now counts.now k method seam.now chunk.now split list.old }
-    ensures { SplitStepped pattern.now k method seam.now chunk.now split list.old list.new result }
+    requires { SplitSearchable pattern.now counts.now k (method_number method) joined list.old }
+    ensures { SplitStepped pattern.now k (method_number method) joined.entry list.old list.new result }
 {
-    if method == 1 {
-        return count_chunk(pattern, counts, k as usize, seam, chunk, split, list);
+    match method {
+        Method::Count => count_chunk(pattern, counts, k as usize, joined, list),
+        Method::Bam => backward_chunk(pattern, counts, k as usize, 2, joined, list),
+        Method::Bam2 => backward_chunk(pattern, counts, k as usize, 3, joined, list),
+        Method::Abam => backward_chunk(pattern, counts, k as usize, 4, joined, list),
+        Method::Hcam => hcam_chunk(pattern, counts, joined, list),
+        Method::Ebl => ebl_chunk(pattern, counts, joined, list),
     }
-    if method == 5 {
-        return hcam_chunk(pattern, counts, seam, chunk, split, list);
-    }
-    if method == 6 {
-        return ebl_chunk(pattern, counts, seam, chunk, split, list);
-    }
-    backward_chunk(
-        pattern, counts, k as usize, method, seam, chunk, split, list,
-    )
 }

@@ -100,18 +100,15 @@ module _ {P T : List ℕ} {range : Range} {before : List ℕ} {s₀ at inspectio
           → ebl_scan P (window (length P) T s₀) ≡ record { listed = t; offset = 0; inspections = length P + length P }
       scan-is e = rw (e, window-whole (length P) T s₀ window-upto) at (ebl-verifies P (window (length P) T s₀) all-occur)
 
-      counted : {next : ℕ} → next ≡ inspections + length P → inspections₀ + (length P + length P) ≡ next
-      counted e = omega (arith, inner.inspected, inner.same, inner.here)
+      counted : inspections₀ + (length P + length P) ≡ inspections + length P
+      counted = omega (arith, inner.inspected, inner.same, inner.here)
 
       -- it matches,
-      pub inner-listed : matches P 0 (window (length P) T s₀) ≡ true → {next : ℕ} → next ≡ inspections + length P
-          → Going (ebl_scan P) (length P) T range before (s + 1) (at + 1) next (set after at (range.base + s))
-      inner-listed e verified =
-          rw (inner.same, ← counted verified) (going-match w.going w.inside w.place (length P + length P) (omega (arith, w.fitting.short)) (scan-is e))
+      pub inner-listed : matches P 0 (window (length P) T s₀) ≡ true → Going (ebl_scan P) (length P) T range before (s + 1) (at + 1) (inspections + length P) (set after at (range.base + s))
+      inner-listed e = rw (inner.same, ← counted) (going-match w.going w.inside w.place (length P + length P) (omega (arith, w.fitting.short)) (scan-is e))
 
       -- or does not: the search goes on at the next window start all the same
-      pub inner-passed : matches P 0 (window (length P) T s₀) ≡ false → {next : ℕ} → next ≡ inspections + length P
-          → Going (ebl_scan P) (length P) T range before (s + 1) at next after
-      inner-passed e verified =
+      pub inner-passed : matches P 0 (window (length P) T s₀) ≡ false → Going (ebl_scan P) (length P) T range before (s + 1) at (inspections + length P) after
+      inner-passed e =
           let here : s₀ + 0 + 1 ≡ s + 1 = omega (arith, inner.same) in
-          rw (here, counted verified) at (going-stop w.going w.inside w.place 0 (length P + length P) (omega (arith, w.fitting.short)) (scan-is e))
+          rw (here, counted) at (going-stop w.going w.inside w.place 0 (length P + length P) (omega (arith, w.fitting.short)) (scan-is e))

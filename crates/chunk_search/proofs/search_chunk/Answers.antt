@@ -6,8 +6,8 @@ use lib.ListN.{length}
 use Rattle.jumbled.specs.Match.{starts}
 use Rattle.jumbled.specs.Steps.{steps_into}
 use Rattle.jumbled.proofs.Positions.{no-windows, steps-room}
+use Rattle.methods.specs.Numbers.{method_number}
 use Rattle.chunk_seam.proofs.Prepared.{parted-starts}
-use Rattle.chunk_seam.proofs.Seams.{reach-fits, seam-holds}
 use Rattle.chunk_search.proofs.Prepared.{found_none, prepared, found-joined}
 use Rattle.chunk_search.proofs.search_chunk.Goals as goal
 
@@ -22,7 +22,7 @@ pub search_split-requires : goal.search_split-requires
 search_split-requires c =
     let args = c.args in
     let joinable = c.requires.joinable in
-    let reaches = seam-holds c.seam_of-seam.ensures (reach-fits args.tail.now args.chunk.now joinable.tail-short joinable.short) in
+    let reaches = c.bytes.ensures ∙ c.seam_of-seam.ensures in
     record {
       prepared = prepared args.tail.now args.chunk.now c.split_starts-split.ensures reaches joinable (omega arith);
       taken = c.requires.taken;
@@ -32,5 +32,5 @@ pub returns : goal.returns
 returns c =
     let args = c.args in
     let joinable = c.requires.joinable in
-    let reaches = seam-holds c.seam_of-seam.ensures (reach-fits args.tail.now args.chunk.now joinable.tail-short joinable.short) in
-    found-joined args.tail.now args.chunk.now c.split_starts-split.ensures reaches (steps_into (length args.list.now) args.pattern.now args.k args.method) c.search_split.ensures
+    let reaches = c.bytes.ensures ∙ c.seam_of-seam.ensures in
+    found-joined args.tail.now args.chunk.now c.split_starts-split.ensures reaches (steps_into (length args.list.now) args.pattern.now args.k (method_number args.method)) c.search_split.ensures
