@@ -11,18 +11,20 @@ use lib.Dec.{lit≤, lit<}
 use lib.ListN.{get_or, set, replicate}
 use lib.Pow.{pow_pos, pow_mono}
 use Rattle.jumbled.specs.Match.{cc, sum, lost_hour, lost}
-use Rattle.jumbled.specs.Fields.{Layout, layout_of, shared, field_count, field_of, width_of, start_value, bits}
+use Rattle.jumbled.specs.Fields.{Layout, shared, field_count, field_of, width_of, start_value, bits}
 use Rattle.jumbled.proofs.Sums.{sum-zero, sum-suc}
 use Rattle.jumbled.proofs.Counts.{cc-length, cc-out}
 use Rattle.jumbled.proofs.Overflow.{Roomy, some_bits, width-none, width-own, width-shared, field-inside, field-outside}
 use Rattle.table_parikh.specs.Table.{tabulate}
-use Rattle.table_parikh.specs.declared.Span.{Span}
+use Rattle.methods.specs.Numbers.{method_number}
+use Rattle.table_widths.specs.Layouts.{layout}
+use Rattle.table_widths.specs.declared.PatternFields.{PatternFields}
 use Rattle.table_parikh.proofs.Tables.{tabulate-set}
 use Rattle.table_parikh.proofs.Filled.{filled, filled_none, filled-set, filled-skip, filled-all}
 use Rattle.table_parikh.proofs.Spans.{span-first, span_last}
 use Rattle.table_widths.proofs.Widths.{layout-roomy, count-is}
 use Rattle.table_packed.specs.Pack.{pack, top_bit}
-use Rattle.table_packed.specs.Word.{FieldPlaced, unit_of, top_of, FieldIs, Packed, Packing}
+use Rattle.table_packed.specs.Word.{FieldPlaced, unit_of, top_of, FieldIs, Packed, Placeable}
 use Rattle.table_packed.specs.declared.Field.{Field}
 use Rattle.table_packed.proofs.Packs.{ValuesFit, sum-upto, pack-suc, pack-lt, pack-upto, pack-empty, pack-only, tops-fitting}
 
@@ -101,15 +103,15 @@ field_is P L f count width at r l ec ew ea p =
 abbrev pub Room : ℕ → ℕ → ℕ → Type 0
 Room count width at = (1 ≤ width) × (at + width ≤ 64) × (count + 1 ≤ 2 ^ (width - 1))
 
-module _ {counts : List ℕ} {span : Span} {k method : ℕ} (ready : Packing counts span k method) where
+module _ (fields : PatternFields) (ready : Placeable fields) where
   abbrev P : List ℕ
-  P = ready.of.pattern
+  P = fields.pattern.now
 
   abbrev L : Layout
-  L = layout_of k method
+  L = layout fields
 
   roomy : Roomy 0 1 L
-  roomy = layout-roomy k method ready.packable.from ready.packable.to
+  roomy = layout-roomy fields.k (method_number fields.method) ready.from ready.to
 
   -- the shared field, above all others
   module _ (width at : ℕ) (width_is : width ≡ L.common) (at-is : at ≡ sum 256 (width_of P L)) where
@@ -119,20 +121,20 @@ module _ {counts : List ℕ} {span : Span} {k method : ℕ} (ready : Packing cou
     pub shared-room : Room 0 width at
     shared-room = (
       omega (arith, width_is, roomy.common-some),
-      omega (arith, shared-width, at-is, word_room P L shared ready.packable.fits (lit< tt)),
+      omega (arith, shared-width, at-is, word_room P L shared ready.fits (lit< tt)),
       pow_pos (width - 1),
     )
 
     pub shared-is : (r : Field) → FieldPlaced 0 width at r → FieldIs P L shared r
-    shared-is r placed = field_is P L shared 0 width at r (lit< tt) (sym (cc-out P shared ready.of.bytes (lit≤ tt))) shared-width at-is placed
+    shared-is r placed = field_is P L shared 0 width at r (lit< tt) (sym (cc-out P shared fields.counted.bytes (lit≤ tt))) shared-width at-is placed
 
   -- a byte of the span
-  module _ (c : ℕ) (inside : c < span.past) where
+  module _ (c : ℕ) (inside : c < fields.span.past) where
     pub byte-below : c < 256
-    byte-below = omega (arith, ready.of.spanned.bytes)
+    byte-below = omega (arith, fields.counted.spanned.bytes)
 
-    counted : get_or counts c 0 ≡ cc P c
-    counted = count-is P counts c ready.of.counts-are byte-below
+    counted : get_or fields.counts.now c 0 ≡ cc P c
+    counted = count-is P fields.counts.now c fields.counted.counts-are byte-below
 
     here : min c 256 ≡ c
     here = omega (arith, byte-below)
@@ -140,25 +142,25 @@ module _ {counts : List ℕ} {span : Span} {k method : ℕ} (ready : Packing cou
     next : min (c + 1) 256 ≡ suc c
     next = omega (arith, byte-below)
 
-    pub few : get_or counts c 0 ≤ 64
-    few = omega (arith, counted, ready.of.short, cc-length P c)
+    pub few : get_or fields.counts.now c 0 ≤ 64
+    few = omega (arith, counted, fields.counted.short, cc-length P c)
 
     -- that the pattern has
-    module _ (has : 0 < get_or counts c 0) (width at : ℕ) (width_is : width ≡ L.own (get_or counts c 0)) (at-is : at ≡ sum c (width_of P L)) where
+    module _ (has : 0 < get_or fields.counts.now c 0) (width at : ℕ) (width_is : width ≡ L.own (get_or fields.counts.now c 0)) (at-is : at ≡ sum c (width_of P L)) where
       own-width-is : width ≡ width_of P L c
       own-width-is = width_is ∙ ap L.own counted ∙ sym (width-own P L c byte-below (omega (arith, counted)))
 
-      pub own_room : Room (get_or counts c 0) width at
+      pub own_room : Room (get_or fields.counts.now c 0) width at
       own_room =
           let starts : cc P c + 1 ≤ 2 ^ (L.own (cc P c) - 1) = roomy.starts (cc P c) (omega (arith, counted)) in
           let same : width ≡ L.own (cc P c) = width_is ∙ ap L.own counted in (
             rw same (some_bits (L.own (cc P c)) (cc P c) (omega (arith, counted)) starts),
-            omega (arith, own-width-is, at-is, word_room P L c ready.packable.fits (omega (arith, byte-below))),
+            omega (arith, own-width-is, at-is, word_room P L c ready.fits (omega (arith, byte-below))),
             rw (same, counted) starts,
           )
 
-      pub own_is : (r : Field) → FieldPlaced (get_or counts c 0) width at r → FieldIs P L c r
-      own_is r placed = field_is P L c (get_or counts c 0) width at r (omega (arith, byte-below)) counted own-width-is at-is placed
+      pub own_is : (r : Field) → FieldPlaced (get_or fields.counts.now c 0) width at r → FieldIs P L c r
+      own_is r placed = field_is P L c (get_or fields.counts.now c 0) width at r (omega (arith, byte-below)) counted own-width-is at-is placed
 
 -- ---- a table of a number for each byte, by its field
 
@@ -207,41 +209,41 @@ module _ (P : List ℕ) (L : Layout) (h : ℕ → ℕ) where
         }
 
 -- where a span of the pattern's bytes begins, and past its end
-module _ {counts : List ℕ} {span : Span} {k method : ℕ} (ready : Packing counts span k method) (h : ℕ → ℕ) where
-  pub tabled-begin : (v : ℕ) → v ≡ h shared → Tabled (P ready) (L ready) h (replicate 256 v) 0 (min span.low 256)
+module _ (fields : PatternFields) (ready : Placeable fields) (h : ℕ → ℕ) where
+  pub tabled-begin : (v : ℕ) → v ≡ h shared → Tabled fields.pattern.now (layout fields) h (replicate 256 v) 0 (min fields.span.low 256)
   tabled-begin v e =
-      span-first (P ready) (Tabled (P ready) (L ready) h (replicate 256 v) 0) (λ c l none t. tabled-none (P ready) (L ready) h (replicate 256 v) 0 c t l none) ready.of.spanned
-      (tabled-first (P ready) (L ready) h v e)
+      span-first fields.pattern.now (Tabled fields.pattern.now (layout fields) h (replicate 256 v) 0) (λ c l none t. tabled-none fields.pattern.now (layout fields) h (replicate 256 v) 0 c t l none) fields.counted.spanned
+      (tabled-first fields.pattern.now (layout fields) h v e)
 
   -- a byte of it that the pattern has, and one that it lacks
-  module _ (c : ℕ) (inside : c < span.past) {table : List ℕ} {at : ℕ} (t : Tabled (P ready) (L ready) h table at (min c 256)) where
-    pub at_here : at ≡ sum c (width_of (P ready) (L ready))
-    at_here = rw (here ready c inside) at t.at-is
+  module _ (c : ℕ) (inside : c < fields.span.past) {table : List ℕ} {at : ℕ} (t : Tabled fields.pattern.now (layout fields) h table at (min c 256)) where
+    pub at_here : at ≡ sum c (width_of fields.pattern.now (layout fields))
+    at_here = rw (here fields ready c inside) at t.at-is
 
-    pub tabled-has : (width v : ℕ) → 0 < get_or counts c 0 → width ≡ (L ready).own (get_or counts c 0) → v ≡ h c
-        → Tabled (P ready) (L ready) h (set table c v) (at + width) (min (c + 1) 256)
+    pub tabled-has : (width v : ℕ) → 0 < get_or fields.counts.now c 0 → width ≡ (layout fields).own (get_or fields.counts.now c 0) → v ≡ h c
+        → Tabled fields.pattern.now (layout fields) h (set table c v) (at + width) (min (c + 1) 256)
     tabled-has width v has width_is e =
-        rw (next ready c inside)
-        (tabled-own (P ready) (L ready) h table at c (rw (here ready c inside) at t) width v (byte-below ready c inside) (omega (arith, counted ready c inside))
-        (own-width-is ready c inside has width at width_is at_here) e)
+        rw (next fields ready c inside)
+        (tabled-own fields.pattern.now (layout fields) h table at c (rw (here fields ready c inside) at t) width v (byte-below fields ready c inside) (omega (arith, counted fields ready c inside))
+        (own-width-is fields ready c inside has width at width_is at_here) e)
 
-    pub tabled-lacks : get_or counts c 0 ≤ 0 → Tabled (P ready) (L ready) h table at (min (c + 1) 256)
+    pub tabled-lacks : get_or fields.counts.now c 0 ≤ 0 → Tabled fields.pattern.now (layout fields) h table at (min (c + 1) 256)
     tabled-lacks none =
-        rw (next ready c inside)
-        (tabled-none (P ready) (L ready) h table at c (rw (here ready c inside) at t) (byte-below ready c inside) (omega (arith, counted ready c inside)))
+        rw (next fields ready c inside)
+        (tabled-none fields.pattern.now (layout fields) h table at c (rw (here fields ready c inside) at t) (byte-below fields ready c inside) (omega (arith, counted fields ready c inside)))
 
   -- the next field's bit is one of the word's
-  pub tabled-fits : {table : List ℕ} {at : ℕ} (c : ℕ) → Tabled (P ready) (L ready) h table at (min c 256) → at ≤ 64
-  tabled-fits {table} {at} c t = at-fits (P ready) (L ready) h table at (min c 256) t ready.packable.fits
+  pub tabled-fits : {table : List ℕ} {at : ℕ} (c : ℕ) → Tabled fields.pattern.now (layout fields) h table at (min c 256) → at ≤ 64
+  tabled-fits {table} {at} c t = at-fits fields.pattern.now (layout fields) h table at (min c 256) t ready.fits
 
   -- all bytes are placed, and the lost hour's entry is blanked
-  pub tabled-end : (table : List ℕ) (at c : ℕ) → span.past ≤ c → Tabled (P ready) (L ready) h table at (min c 256)
-      → set table lost_hour 0 ≡ tabulate 256 (λ i. cond (lost i) 0 (h (field_of (P ready) i)))
+  pub tabled-end : (table : List ℕ) (at c : ℕ) → fields.span.past ≤ c → Tabled fields.pattern.now (layout fields) h table at (min c 256)
+      → set table lost_hour 0 ≡ tabulate 256 (λ i. cond (lost i) 0 (h (field_of fields.pattern.now i)))
   tabled-end table at c past t =
-      let all : Tabled (P ready) (L ready) h table at 256
-      = span_last (P ready) (Tabled (P ready) (L ready) h table at) (λ d l none u. tabled-none (P ready) (L ready) h table at d u l none) ready.of.spanned c past t in
-      ap (λ (l : List ℕ). set l lost_hour 0) (all.table_is ∙ filled-all 256 (λ i. h (field_of (P ready) i)) (h shared) 256 (omega arith))
-      ∙ tabulate-set 256 (λ i. h (field_of (P ready) i)) lost_hour 0
+      let all : Tabled fields.pattern.now (layout fields) h table at 256
+      = span_last fields.pattern.now (Tabled fields.pattern.now (layout fields) h table at) (λ d l none u. tabled-none fields.pattern.now (layout fields) h table at d u l none) fields.counted.spanned c past t in
+      ap (λ (l : List ℕ). set l lost_hour 0) (all.table_is ∙ filled-all 256 (λ i. h (field_of fields.pattern.now i)) (h shared) 256 (omega arith))
+      ∙ tabulate-set 256 (λ i. h (field_of fields.pattern.now i)) lost_hour 0
 
 -- ---- the word while it is put together
 
@@ -281,32 +283,32 @@ module _ (P : List ℕ) (L : Layout) where
           tops_are = s.tops_are ∙ partly_none (width_of P L) (λ f. top_bit (width_of P L f)) c (top-none P L c l e);
         }
 
-module _ {counts : List ℕ} {span : Span} {k method : ℕ} (ready : Packing counts span k method) where
-  pub summed-begin : (r : Field) → FieldIs (P ready) (L ready) shared r → Summed (P ready) (L ready) r.start r.top (min span.low 256)
+module _ (fields : PatternFields) (ready : Placeable fields) where
+  pub summed-begin : (r : Field) → FieldIs fields.pattern.now (layout fields) shared r → Summed fields.pattern.now (layout fields) r.start r.top (min fields.span.low 256)
   summed-begin r p =
-      span-first (P ready) (Summed (P ready) (L ready) r.start r.top) (λ c l none s. summed-none (P ready) (L ready) r.start r.top c s l none) ready.of.spanned
-      (summed-first (P ready) (L ready) r p)
+      span-first fields.pattern.now (Summed fields.pattern.now (layout fields) r.start r.top) (λ c l none s. summed-none fields.pattern.now (layout fields) r.start r.top c s l none) fields.counted.spanned
+      (summed-first fields.pattern.now (layout fields) r p)
 
-  module _ (c : ℕ) (inside : c < span.past) {start tops : ℕ} (s : Summed (P ready) (L ready) start tops (min c 256)) where
-    pub summed-has : (r : Field) → FieldIs (P ready) (L ready) c r → Summed (P ready) (L ready) (start + r.start) (tops + r.top) (min (c + 1) 256)
-    summed-has r p = rw (next ready c inside) (summed-own (P ready) (L ready) start tops c (rw (here ready c inside) at s) r (byte-below ready c inside) p)
+  module _ (c : ℕ) (inside : c < fields.span.past) {start tops : ℕ} (s : Summed fields.pattern.now (layout fields) start tops (min c 256)) where
+    pub summed-has : (r : Field) → FieldIs fields.pattern.now (layout fields) c r → Summed fields.pattern.now (layout fields) (start + r.start) (tops + r.top) (min (c + 1) 256)
+    summed-has r p = rw (next fields ready c inside) (summed-own fields.pattern.now (layout fields) start tops c (rw (here fields ready c inside) at s) r (byte-below fields ready c inside) p)
 
-    pub summed-lacks : get_or counts c 0 ≤ 0 → Summed (P ready) (L ready) start tops (min (c + 1) 256)
+    pub summed-lacks : get_or fields.counts.now c 0 ≤ 0 → Summed fields.pattern.now (layout fields) start tops (min (c + 1) 256)
     summed-lacks none =
-        rw (next ready c inside)
-        (summed-none (P ready) (L ready) start tops c (rw (here ready c inside) at s) (byte-below ready c inside) (omega (arith, counted ready c inside)))
+        rw (next fields ready c inside)
+        (summed-none fields.pattern.now (layout fields) start tops c (rw (here fields ready c inside) at s) (byte-below fields ready c inside) (omega (arith, counted fields ready c inside)))
 
-  pub summed-fits : {start tops : ℕ} (c : ℕ) → Summed (P ready) (L ready) start tops (min c 256) → (start < 2 ^ 64) × (tops < 2 ^ 64)
-  summed-fits {start} {tops} c s = both-fit (P ready) (L ready) start tops (min c 256) s ready.packable.fits (omega arith)
+  pub summed-fits : {start tops : ℕ} (c : ℕ) → Summed fields.pattern.now (layout fields) start tops (min c 256) → (start < 2 ^ 64) × (tops < 2 ^ 64)
+  summed-fits {start} {tops} c s = both-fit fields.pattern.now (layout fields) start tops (min c 256) s ready.fits (omega arith)
 
   -- all fields are placed
-  pub packed-end : (start tops c : ℕ) (units : List ℕ) (at : ℕ) → span.past ≤ c → Summed (P ready) (L ready) start tops (min c 256)
-      → Tabled (P ready) (L ready) (unit_of (P ready) (L ready)) units at (min c 256) → Packed (P ready) (L ready) (record { start = start; tops = tops }) (set units lost_hour 0)
+  pub packed-end : (start tops c : ℕ) (units : List ℕ) (at : ℕ) → fields.span.past ≤ c → Summed fields.pattern.now (layout fields) start tops (min c 256)
+      → Tabled fields.pattern.now (layout fields) (unit_of fields.pattern.now (layout fields)) units at (min c 256) → Packed fields.pattern.now (layout fields) (record { start = start; tops = tops }) (set units lost_hour 0)
   packed-end start tops c units at past s t =
-      let all : Summed (P ready) (L ready) start tops 256
-      = span_last (P ready) (Summed (P ready) (L ready) start tops) (λ d l none u. summed-none (P ready) (L ready) start tops d u l none) ready.of.spanned c past s in
+      let all : Summed fields.pattern.now (layout fields) start tops 256
+      = span_last fields.pattern.now (Summed fields.pattern.now (layout fields) start tops) (λ d l none u. summed-none fields.pattern.now (layout fields) start tops d u l none) fields.counted.spanned c past s in
       record {
-        start = all.start_is ∙ partly-last (width_of (P ready) (L ready)) (start_value (P ready) (L ready));
-        tops = all.tops_are ∙ partly-last (width_of (P ready) (L ready)) (λ f. top_bit (width_of (P ready) (L ready) f));
-        units-are = tabled-end ready (unit_of (P ready) (L ready)) units at c past t;
+        start = all.start_is ∙ partly-last (width_of fields.pattern.now (layout fields)) (start_value fields.pattern.now (layout fields));
+        tops = all.tops_are ∙ partly-last (width_of fields.pattern.now (layout fields)) (λ f. top_bit (width_of fields.pattern.now (layout fields) f));
+        units-are = tabled-end fields ready (unit_of fields.pattern.now (layout fields)) units at c past t;
       }

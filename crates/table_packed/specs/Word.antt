@@ -3,8 +3,9 @@ use Rattle.std.specs.Prelude.{◌≡◌, cond, List, ℕ, ◌*◌, ◌-◌, ◌^
 use Rattle.jumbled.specs.Match.{sum, lost}
 use Rattle.jumbled.specs.Fields.{Layout, layout_of, bits, shared, field_count, field_of, width_of, start_value}
 use Rattle.table_parikh.specs.Table.{tabulate}
-use Rattle.table_parikh.specs.declared.Span.{Span}
-use Rattle.table_widths.specs.Counted.{PatternCounted}
+use Rattle.methods.specs.Numbers.{method_number}
+use Rattle.table_widths.specs.Layouts.{layout}
+use Rattle.table_widths.specs.declared.PatternFields.{PatternFields}
 use Rattle.table_packed.specs.Pack.{pack, top_bit, only}
 use Rattle.table_packed.specs.declared.Field.{Field}
 use Rattle.table_packed.specs.declared.Word.{Word}
@@ -61,23 +62,13 @@ pub record Packable (P : List ℕ) (k method : ℕ) : Type 0 where
   pub to : method ≤ 4
   pub fits : bits P (layout_of k method) ≤ 64
 
--- The counts and the span of a pattern for which tables can be made
-pub record Packing (counts : List ℕ) (span : Span) (k method : ℕ) : Type 0 where
-  pub of : PatternCounted counts span
-  pub packable : Packable of.pattern k method
+-- The fields of a pattern for which tables can be made
+abbrev pub Placeable : PatternFields → Type 0
+Placeable fields = Packable fields.pattern.now fields.k (method_number fields.method)
 
--- the field that all other bytes share,
-abbrev pub SharedField : List ℕ → Span → ℕ → ℕ → Field → Type 0
-SharedField counts span k method r = (ready : Packing counts span k method) → FieldIs ready.of.pattern (layout_of k method) shared r
+-- and, of those, the field that all other bytes share, and the table of top bits before any byte has its own
+abbrev pub SharedField : PatternFields → Field → Type 0
+SharedField fields r = FieldIs fields.pattern.now (layout fields) shared r
 
--- the word with its units,
-abbrev pub PackedBy : List ℕ → Span → ℕ → ℕ → Word → List ℕ → Type 0
-PackedBy counts span k method r units = (ready : Packing counts span k method) → Packed ready.of.pattern (layout_of k method) r units
-
--- and the top bits: before any byte has its own field, and when all have
-abbrev pub SharedTops : List ℕ → Span → ℕ → ℕ → List ℕ → Type 0
-SharedTops counts span k method tops =
-    (ready : Packing counts span k method) → tops ≡ replicate 256 (top_of ready.of.pattern (layout_of k method) shared)
-
-abbrev pub OwnTopsBy : List ℕ → Span → ℕ → ℕ → List ℕ → Type 0
-OwnTopsBy counts span k method tops = (ready : Packing counts span k method) → OwnTops ready.of.pattern (layout_of k method) tops
+abbrev pub SharedTops : PatternFields → List ℕ → Type 0
+SharedTops fields tops = tops ≡ replicate 256 (top_of fields.pattern.now (layout fields) shared)

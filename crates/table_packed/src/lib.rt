@@ -3,12 +3,14 @@
 #![tactic(auto)]
 
 ghost use Rattle.std.specs.Prelude.{◌≡◌, ◌+◌, ◌-◌, ◌^◌, ◌≤◌, replicate};
-ghost use Rattle.table_packed.specs.Word.{FieldPlaced, Packing, SharedField, PackedBy, SharedTops, OwnTopsBy};
+ghost use Rattle.table_widths.specs.Layouts.{layout};
+ghost use Rattle.table_packed.specs.Word.{FieldPlaced, Packed, OwnTops, Placeable, SharedField, SharedTops};
 
-use table_parikh::{LOST_HOUR, Span};
+use table_parikh::LOST_HOUR;
+use table_widths::PatternFields;
 
 // A field of the packed word, each number at the field's place: its start value, what an inspection adds, its top bit.
-#[derive(Clone, Copy)]
+#[derive(Clone, Copy, Debug, PartialEq, Eq)]
 pub struct Field {
     pub start: u64,
     pub unit: u64,
@@ -29,19 +31,15 @@ fn field_at(count: usize, width: usize, at: usize) -> Field
 }
 
 // The field that all bytes share which the pattern lacks. It stands above the pattern's own.
-pub fn shared_field(counts: &[u8; 256], span: Span, k: usize, method: u8) -> Field
-    requires { Packing counts.now span k method }
-    ensures { SharedField counts.now span k method result }
+pub fn shared_field(fields: &PatternFields) -> Field
+    requires { Placeable fields.now }
+    ensures { SharedField fields.now result }
 {
-    field_at(
-        0,
-        table_widths::shared_width(k, method),
-        table_widths::own_bits(counts, span, k, method),
-    )
+    field_at(0, fields.shared_width(), fields.own_bits())
 }
 
 // The word before the first inspection, and the top bits of all fields.
-#[derive(Clone, Copy)]
+#[derive(Clone, Copy, Debug, PartialEq, Eq)]
 pub struct Word {
     pub start: u64,
     pub tops: u64,
@@ -49,25 +47,17 @@ pub struct Word {
 
 // The word, and what an inspection of each byte adds: units is lent with the shared field's unit for every byte, the pattern's own bytes get theirs,
 // and a lost hour adds nothing (document 02, T-07).
-pub fn place_units(
-    counts: &[u8; 256],
-    span: Span,
-    k: usize,
-    method: u8,
-    shared: Field,
-    units: &mut [u64; 256],
-) -> Word
-    requires { (Packing counts.now span k method) × (SharedField counts.now span k method shared) × (units.old ≡ replicate 256 shared.unit) }
-    ensures { PackedBy counts.now span k method result units.new }
+pub fn place_units(fields: &PatternFields, shared: Field, units: &mut [u64; 256]) -> Word
+    requires { (Placeable fields.now) × (SharedField fields.now shared) × (units.old ≡ replicate 256 shared.unit) }
+    ensures { Packed fields.now.pattern.now (layout fields.now) result units.new }
 {
-    let past = span.past;
     let mut start = shared.start;
     let mut tops = shared.top;
     let mut at: usize = 0;
-    for byte in span.low..past {
-        let count = counts[byte] as usize;
+    for byte in fields.span.low..fields.span.past {
+        let count = fields.counts[byte] as usize;
         if 0 < count {
-            let width = table_widths::own_width(count, k, method);
+            let width = fields.own_width(count);
             let field = field_at(count, width, at);
             start += field.start;
             units[byte] = field.unit;
@@ -81,22 +71,15 @@ pub fn place_units(
 
 // The top bit of each byte's field, which method 4 tests: own_tops is lent with the shared field's for every byte. A lost hour has none to test, so
 // that it is no error even where the shared field's top bit is set.
-pub fn place_own_tops(
-    counts: &[u8; 256],
-    span: Span,
-    k: usize,
-    method: u8,
-    own_tops: &mut [u64; 256],
-)
-    requires { (Packing counts.now span k method) × (SharedTops counts.now span k method own_tops.old) }
-    ensures { OwnTopsBy counts.now span k method own_tops.new }
+pub fn place_own_tops(fields: &PatternFields, own_tops: &mut [u64; 256])
+    requires { (Placeable fields.now) × (SharedTops fields.now own_tops.old) }
+    ensures { OwnTops fields.now.pattern.now (layout fields.now) own_tops.new }
 {
-    let past = span.past;
     let mut at: usize = 0;
-    for byte in span.low..past {
-        let count = counts[byte] as usize;
+    for byte in fields.span.low..fields.span.past {
+        let count = fields.counts[byte] as usize;
         if 0 < count {
-            let width = table_widths::own_width(count, k, method);
+            let width = fields.own_width(count);
             let field = field_at(count, width, at);
             own_tops[byte] = field.top;
             at += width;
