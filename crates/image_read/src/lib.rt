@@ -3,7 +3,7 @@
 
 #![tactic(auto)]
 
-ghost use Rattle.std.specs.Prelude.{◌≡◌, not, false, ◌+◌, ◌*◌, ◌^◌, ◌≤◌, ◌<◌, length};
+ghost use Rattle.std.specs.Prelude.{◌≡◌, not, true, false, MatchOption, ◌+◌, ◌*◌, ◌^◌, ◌≤◌, ◌<◌, length};
 ghost use Rattle.image_form.specs.Decode.{length_of, end_of, body_of, kinds_right, bad_form, parts_of};
 
 use image_form::HEAD;
@@ -39,7 +39,7 @@ fn kinds_right(image: &[u8]) -> bool
 
 // The form is one that load takes.
 #[tactic(auto, unfolding(image_form::specs::Decode::bad_form))]
-pub fn well_formed(image: &[u8]) -> bool
+fn well_formed(image: &[u8]) -> bool
     ensures { result ≡ not (bad_form image.now) }
 {
     HEAD <= image.len()
@@ -51,7 +51,7 @@ pub fn well_formed(image: &[u8]) -> bool
 }
 
 // The body of a kind, as a part of the image.
-pub fn body_of(image: &[u8], kind: usize) -> &[u8]
+fn body_of(image: &[u8], kind: usize) -> &[u8]
     requires { (bad_form image.now ≡ false) × (1 ≤ kind) × (kind ≤ 4) }
     ensures { result.now ≡ body_of kind image.now }
 {
@@ -60,30 +60,61 @@ pub fn body_of(image: &[u8], kind: usize) -> &[u8]
     &image[start..end]
 }
 
-// The tolerance that an image holds.
-#[tactic(auto, using(image_form::proofs::Contents::two_bytes))]
-pub fn tolerance(image: &[u8]) -> u8
-    requires { bad_form image.now ≡ false }
-    ensures { result ≡ (parts_of image.now).k }
-{
-    body_of(image, 2)[0]
+// An image whose form load takes, so that its parts can be read.
+#[derive(Clone, Copy)]
+pub struct Image<'a> {
+    bytes: &'a [u8],
+    ghost taken: { bad_form bytes.now ≡ false },
 }
 
-// The method that an image holds.
-#[tactic(auto, using(image_form::proofs::Contents::two_bytes))]
-pub fn method(image: &[u8]) -> u8
-    requires { bad_form image.now ≡ false }
-    ensures { result ≡ (parts_of image.now).method }
-{
-    body_of(image, 2)[1]
-}
+impl<'a> Image<'a> {
+    // The bytes as an image, where they have that form.
+    pub fn of(bytes: &'a [u8]) -> Option<Image<'a>>
+        ensures { MatchOption result (bad_form bytes.now ≡ true) (λ image. (bad_form bytes.now ≡ false) × (image.bytes.now ≡ bytes.now)) }
+    {
+        if well_formed(bytes) {
+            Some(Image { bytes })
+        } else {
+            None
+        }
+    }
 
-// The total n that an image holds.
-#[tactic(auto, using(image_form::proofs::Contents::four_bytes))]
-pub fn total(image: &[u8]) -> u32
-    requires { bad_form image.now ≡ false }
-    ensures { result ≡ (parts_of image.now).total }
-{
-    let bytes = body_of(image, 3);
-    u32::from_le_bytes([bytes[0], bytes[1], bytes[2], bytes[3]])
+    // The pattern that it holds.
+    pub fn pattern(self) -> &'a [u8]
+        ensures { result.now ≡ (parts_of self.entry.bytes.now).pattern }
+    {
+        body_of(self.bytes, 1)
+    }
+
+    // The tolerance.
+    #[tactic(auto, using(image_form::proofs::Contents::two_bytes))]
+    pub fn tolerance(self) -> u8
+        ensures { result ≡ (parts_of self.entry.bytes.now).k }
+    {
+        body_of(self.bytes, 2)[0]
+    }
+
+    // The method.
+    #[tactic(auto, using(image_form::proofs::Contents::two_bytes))]
+    pub fn method(self) -> u8
+        ensures { result ≡ (parts_of self.entry.bytes.now).method }
+    {
+        body_of(self.bytes, 2)[1]
+    }
+
+    // The total n.
+    #[tactic(auto, using(image_form::proofs::Contents::four_bytes))]
+    pub fn total(self) -> u32
+        ensures { result ≡ (parts_of self.entry.bytes.now).total }
+    {
+        let bytes = body_of(self.bytes, 3);
+        u32::from_le_bytes([bytes[0], bytes[1], bytes[2], bytes[3]])
+    }
+
+    // The tail.
+    pub fn tail(self) -> &'a [u8]
+        ensures { result.now ≡ (parts_of self.entry.bytes.now).tail }
+    {
+        body_of(self.bytes, 4)
+    }
 }
