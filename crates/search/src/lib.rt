@@ -10,6 +10,7 @@ ghost use Rattle.search.specs.Calls.{handed_number, Opened, Advancing, Feedable,
 
 use admit_pattern::AdmittedPattern;
 use chunk_search::SearchCounts;
+use image_read::Image;
 // The answers and whole search have crates of their own; all that a caller names is here too.
 pub use answers::{Admission, Answer, Refusal, Saving, number_of};
 pub use search_whole::whole;
@@ -105,18 +106,18 @@ impl Search {
     pub fn load(bytes: &[u8]) -> SearchResult
         ensures { Loads bytes.now result }
     {
-        if !image_read::well_formed(bytes) {
+        let Some(image) = Image::of(bytes) else {
             return SearchResult {
                 admission: Admission::Refused(Refusal::Malformed),
                 search: Search::BLANK,
             };
-        }
+        };
         Search::with_parts(
-            image_read::body_of(bytes, 1),
-            image_read::tolerance(bytes),
-            image_read::method(bytes),
-            image_read::total(bytes),
-            image_read::body_of(bytes, 4),
+            image.pattern(),
+            image.tolerance(),
+            image.method(),
+            image.total(),
+            image.tail(),
         )
     }
 
