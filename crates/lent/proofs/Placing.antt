@@ -5,7 +5,7 @@ use Prim.Native.Nat.{ℕ, suc, ◌+◌, ◌≤◌, ◌<◌}
 use native.Mathlib.Nat.{add-zero, zero-add, add_assoc}
 use native.Mathlib.Omega.{arith}
 use lib.ListN.{length, get_or, take, drop, set, length-append, length-take, length-drop, take-append-drop}
-use lib.Seq.{length-take-le, drop-cons, set_at, take_at, drop_at, drop-drop, take-take, take-append-le, take-append_seam, drop-append_seam}
+use lib.Seq.{drop-cons, set_at, take_at, drop_at, drop-drop, take-append_seam, drop-append_seam}
 use Rattle.lent.specs.Placed.{placed, shifted, FirstPlaces}
 
 regroup : (a b c d : List ℕ) → (a ++ b) ++ (c ++ d) ≡ a ++ ((b ++ c) ++ d)
@@ -53,28 +53,6 @@ module _ (list : List ℕ) (at : ℕ) (numbers : List ℕ) (room : at + length n
           ∙ ap (drop (length more)) drop-placed
           ∙ drop-drop (length more) (at + length numbers) list
           ∙ ap (λ (n : ℕ). drop n list) (add_assoc at (length numbers) (length more) ∙ ap (λ (n : ℕ). at + n) (sym (length-append numbers more)))
-
--- numbers put before others that were put already
-pub placed-front : (list : List ℕ) (at : ℕ) (numbers later : List ℕ) → at + length (numbers ++ later) ≤ length list
-    → placed (placed list (at + length numbers) later) at numbers ≡ placed list at (numbers ++ later)
-placed-front list at numbers later room =
-    placed-def (placed list (at + length numbers) later) at numbers
-    ∙ ap₂ (λ (before after : List ℕ). before ++ (numbers ++ after)) front back
-    ∙ ap (λ (l : List ℕ). take at list ++ l) (sym (append_assoc numbers later (drop (at + length numbers + length later) list)))
-    ∙ ap (λ (n : ℕ). take at list ++ ((numbers ++ later) ++ drop n list)) (add_assoc at (length numbers) (length later) ∙ ap (λ (n : ℕ). at + n) (sym (length-append numbers later)))
-    ∙ sym (placed-def list at (numbers ++ later))
-  where
-    first : length (take (at + length numbers) list) ≡ at + length numbers
-    first = length-take-le (at + length numbers) list (omega (arith, length-append numbers later))
-
-    front : take at (placed list (at + length numbers) later) ≡ take at list
-    front =
-        ap (take at) (placed-def list (at + length numbers) later)
-        ∙ take-append-le at (take (at + length numbers) list) _ (omega (arith, first))
-        ∙ take-take at (at + length numbers) list (omega arith)
-
-    back : drop (at + length numbers) (placed list (at + length numbers) later) ≡ later ++ drop (at + length numbers + length later) list
-    back = ap (drop (at + length numbers)) (placed-def list (at + length numbers) later) ∙ drop_at (take (at + length numbers) list) _ (at + length numbers) first
 
 -- one number more
 pub placed-next : (list : List ℕ) (at : ℕ) (numbers : List ℕ) (x : ℕ) → at + length numbers < length list

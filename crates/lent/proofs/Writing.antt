@@ -1,15 +1,14 @@
--- Laws of what a writer yields: nothing, two writes in a row or the other way round, one byte more, and the buffer's length.
+-- Laws of what a writer yields: nothing, two writes in a row, one byte more, a part written as a whole, and the buffer's length.
 use mathlib.Core.Path.{◌≡◌, sym, ap, ap₂, ◌∙◌}
 use mathlib.Core.List.{List, [], ◌∷◌, ◌++◌}
 use borrow.Rule.Slice.PartMut.{put_mid}
 use Prim.Native.Nat.{ℕ, ◌+◌, ◌-◌, ◌≤◌, ◌<◌}
-use native.Mathlib.Nat.{add-zero, add_assoc}
-use native.Mathlib.Numerals.{add-one}
+use native.Mathlib.Nat.{add-zero}
 use native.Mathlib.Omega.{arith}
-use lib.ListN.{length, get_or, take, drop, set, length-append}
-use lib.Seq.{length-take-le, take-suc, drop-drop}
+use lib.ListN.{length, take, drop, set, length-append}
+use lib.Seq.{drop-drop}
 use Rattle.lent.specs.Placed.{placed}
-use Rattle.lent.proofs.Placing.{placed-nil, length-placed, placed-placed, placed-front, placed-next}
+use Rattle.lent.proofs.Placing.{placed-nil, length-placed, placed-placed, placed-next}
 use Rattle.lent.specs.Written.{Written}
 
 pub written_none : (b : List ℕ) (at : ℕ) → Written b at [] b at
@@ -29,17 +28,6 @@ written_then {b} {at} {U} {W = W} first second room =
       place = omega (arith, first.place, second.place, length-append U W);
     }
 
--- in the other order: what stands first is written last
-pub written-front : {b : List ℕ} {at place : ℕ} {W middle : List ℕ} {next : ℕ} {U after : List ℕ} {end : ℕ}
-    → Written b place W middle next → Written middle at U after end → place ≡ at + length U → at + length (U ++ W) ≤ length b → Written b at (U ++ W) after next
-written-front {b} {at} {place} {W} {U = U} later front meet room =
-    record {
-      filled =
-          front.filled ∙ ap (λ (c : List ℕ). placed c at U) (later.filled ∙ ap (λ (n : ℕ). placed b n W) meet)
-          ∙ placed-front b at U W room;
-      place = omega (arith, later.place, meet, length-append U W);
-    }
-
 -- where two lists fit, the first does
 pub first_fits : (at : ℕ) (U W : List ℕ) {n : ℕ} → at + length (U ++ W) ≤ n → at + length U ≤ n
 first_fits at U W room = omega (arith, length-append U W)
@@ -52,16 +40,13 @@ second_fits {at = at} {U} W w room =
 
 -- ---- one byte more
 
-module _ {b : List ℕ} {at : ℕ} {U middle : List ℕ} {place : ℕ} (w : Written b at U middle place) (room : at + length U < length b) where
-  pub written-inside : place < length middle
-  written-inside = omega (arith, w.place, written-length w (omega arith))
-
-  pub written-more : (v : ℕ) → Written b at (U ++ (v ∷ [])) (set middle place v) (place + 1)
-  written-more v =
-      record {
-        filled = ap₂ (λ (c : List ℕ) (n : ℕ). set c n v) w.filled w.place ∙ placed-next b at U v room;
-        place = omega (arith, w.place, length-append U (v ∷ []));
-      }
+pub written-more : {b : List ℕ} {at : ℕ} {U middle : List ℕ} {place : ℕ} → Written b at U middle place → at + length U < length b → (v : ℕ)
+    → Written b at (U ++ (v ∷ [])) (set middle place v) (place + 1)
+written-more {b} {at} {U} w room v =
+    record {
+      filled = ap₂ (λ (c : List ℕ) (n : ℕ). set c n v) w.filled w.place ∙ placed-next b at U v room;
+      place = omega (arith, w.place, length-append U (v ∷ []));
+    }
 
 -- a byte alone is one more than none
 pub written_byte : (b : List ℕ) (at v : ℕ) → at < length b → Written b at (v ∷ []) (set b at v) (at + 1)
@@ -75,15 +60,3 @@ written_part b at next {U} {part} is place =
       filled = ap₂ (λ (bytes rest : List ℕ). take at b ++ (bytes ++ rest)) is (drop-drop (next - at) at b ∙ ap (λ (n : ℕ). drop n b) (omega arith));
       place = place;
     }
-
--- a loop that copies a list: the byte at i goes where the i bytes before it end
-module _ {b : List ℕ} {at : ℕ} (S : List ℕ) (i : ℕ) {middle : List ℕ}
-    (w : Written b at (take i S) middle (at + i)) (more : i < length S) (room : at + length S ≤ length b) where
-  copied-room : at + length (take i S) < length b
-  copied-room = omega (arith, length-take-le i S (omega arith))
-
-  pub copied-inside : at + i < length middle
-  copied-inside = written-inside w copied-room
-
-  pub copied_more : Written b at (take (i + 1) S) (set middle (at + i) (get_or S i 0)) (at + (i + 1))
-  copied_more = rw (← add_assoc at i 1, add-one i, take-suc S i 0) (written-more w copied-room (get_or S i 0))

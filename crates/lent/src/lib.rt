@@ -1,5 +1,5 @@
 // What is lent to a search and what a search hands back: the window starts that a loop goes through and where their positions go, and bytes
-// copied or repeated into a lent buffer. What a loop or a writer then says it did is in specs/.
+// copied into a lent buffer. What a loop or a writer then says it did is in specs/.
 
 #![tactic(auto)]
 
@@ -37,16 +37,6 @@ pub fn copy_in(source: &[u8], buffer: &mut [u8], at: usize) -> usize
 {
     let next = at + source.len();
     buffer[at..next].copy_from_slice(source);
-    next
-}
-
-// So many times a byte, put into the buffer from a place on; the place after them is given.
-pub fn fill(byte: u8, count: usize, buffer: &mut [u8], at: usize) -> usize
-    requires { at + count ≤ length buffer.old }
-    ensures { Written buffer.old at (replicate count byte) buffer.new result }
-{
-    let next = at + count;
-    buffer[at..next].fill(byte);
     next
 }
 

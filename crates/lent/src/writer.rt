@@ -41,6 +41,8 @@ impl<'a> Writer<'a> {
         requires { RoomFor self.old (replicate count byte) }
         ensures { Appended self.old (replicate count byte) self.new }
     {
-        self.at = super::fill(byte, count, self.buffer, self.at);
+        let next = self.at + count;
+        self.buffer[self.at..next].fill(byte);
+        self.at = next;
     }
 }
