@@ -1,11 +1,21 @@
 -- The next power of a base: its value modulo a number, and whether it is at most a bound.
-use Rattle.std.proofs.Common.{◌≡◌, ℕ, ◌+◌, ◌-◌, ◌*◌, ◌/◌, ◌%◌, ◌^◌, ◌<◌, ◌≤◌, true, sym, refl, ap, ◌∙◌, lt_of_lt_of_le, div-lt_iff_lt-mul, add-mul, one-mul, pow-suc, le-div_iff_mul-le, le-mul_of_pos_right, add-one, arith}
-use native.Mathlib.Nat.{pow-zero}
+use Rattle.std.proofs.Common.{◌≡◌, ℕ, leb, ◌+◌, ◌-◌, ◌*◌, ◌/◌, ◌%◌, ◌^◌, ◌<◌, ◌≤◌, sym, refl, ap, ◌∙◌, lt_of_lt_of_le, add-mul, one-mul, pow-suc, le-mul_of_pos_right, add-one, arith, Option, Some, None, MatchOption, IfSome, IfNone, div-add-mod', mul_right_comm}
+use borrow.Author.Tests.{le-leb, lt-leb}
+use Rattle.std.specs.Option.{is_some}
+use native.Mathlib.Nat.{pow-zero, mul-add-mod_self_right}
 use Rattle.table_heap.specs.Powers.{IsPower}
-use Rattle.table_heap.proofs.Products.{mod-mul-mod}
 
-pub power_zero : (base : ℕ) → IsPower base 0 (record { value = 1; largest = 0; exact = true })
-power_zero base = record { value = rw (pow-zero base) refl; exact = rw (pow-zero base) refl; largest = λ e. sym (pow-zero base) }
+-- a factor may be reduced first
+mod-mul-mod : (a b m : ℕ) → a % m * b % m ≡ a * b % m
+mod-mul-mod a b m =
+    sym (mul-add-mod_self_right (a / m * b) m (a % m * b))
+    ∙ ap (λ (n : ℕ). n % m)
+    (ap (λ (n : ℕ). n + a % m * b) (mul_right_comm (a / m) b m)
+    ∙ sym (add-mul (a / m * m) (a % m) b)
+    ∙ ap (λ (n : ℕ). n * b) (div-add-mod' a m))
+
+pub power_zero : (base : ℕ) → IsPower base 0 (record { value = 1; largest = Some 0 })
+power_zero base = record { value = rw (pow-zero base) refl; largest = (sym (pow-zero base), rw (pow-zero base) (omega arith)) }
 
 power-next : (base i : ℕ) → base ^ (i + 1) ≡ base ^ i * base
 power-next base i = ap (λ (n : ℕ). base ^ n) (add-one i) ∙ pow-suc base i
@@ -24,9 +34,18 @@ pub largest-next : (base i e : ℕ) → 0 < base → e + 1 ≡ base ^ i → e * 
 largest-next base i e pos h =
     omega (arith, power-next base i, ap (λ (n : ℕ). n * base) h, add-mul e 1 base, one-mul base)
 
--- whether there is room for a digit more
-pub room : (base top e : ℕ) → 0 < base → base - 1 ≤ top → e ≤ (top - (base - 1)) / base → e * base + (base - 1) ≤ top
-room base top e pos fits h = let product : e * base ≤ top - (base - 1) = (le-div_iff_mul-le pos).0 h in omega arith
+-- one digit more, of a power that may have passed the bound
+pub next-largest : (base i : ℕ) → 0 < base → (largest more : Option ℕ) → MatchOption largest (2 ^ 64 < base ^ i) (λ e. (e + 1 ≡ base ^ i) × (base ^ i ≤ 2 ^ 64))
+    → IfNone largest (more ≡ None) → IfSome largest (λ e. MatchOption more (2 ^ 64 ≤ e * base + (base - 1)) (λ f. (f ≡ e * base + (base - 1)) × (f < 2 ^ 64)))
+    → MatchOption more (2 ^ 64 < base ^ (i + 1)) (λ f. (f + 1 ≡ base ^ (i + 1)) × (base ^ (i + 1) ≤ 2 ^ 64))
+next-largest base i pos None more above none some = rw none (power-above base i (2 ^ 64) pos above)
+next-largest base i pos (Some e) None is none some = omega (arith, largest-next base i e pos is.0)
+next-largest base i pos (Some e) (Some f) is none some =
+    let next : f + 1 ≡ base ^ (i + 1) = omega (arith, largest-next base i e pos is.0, some.0) in
+    (next, omega (arith, some.1))
 
-pub no_room : (base top e : ℕ) → 0 < base → (top - (base - 1)) / base < e → top < e * base + (base - 1)
-no_room base top e pos h = let product : top - (base - 1) < e * base = (div-lt_iff_lt-mul pos).0 h in omega arith
+-- whether it is within the bound
+pub within-bound : (base i : ℕ) (largest : Option ℕ) → MatchOption largest (2 ^ 64 < base ^ i) (λ e. (e + 1 ≡ base ^ i) × (base ^ i ≤ 2 ^ 64))
+    → is_some largest ≡ leb (base ^ i) (2 ^ 64)
+within-bound base i None above = sym (lt-leb (base ^ i) (2 ^ 64) above)
+within-bound base i (Some e) is = sym (le-leb (base ^ i) (2 ^ 64) is.1)

@@ -2,11 +2,11 @@
 -- power is that of their rank.
 use Rattle.std.proofs.Common.{◌≡◌, ℕ, ◌+◌, ◌^◌, ◌≤◌, leb, List, length, get_or, sym, ap, ◌∙◌, arith}
 use Rattle.jumbled.specs.Match.{cc}
-use Rattle.jumbled.specs.Heap.{heap_value}
+use Rattle.jumbled.specs.Heap.{rank, heap_value}
 use Rattle.jumbled.proofs.Ranks.{rank_below, rank-above, heap_value-none, exact-rank}
 use Rattle.table_parikh.proofs.Parikh.{get_or-parikh}
 use Rattle.table_parikh.proofs.Filled.{filled-below, filled-above}
-use Rattle.table_heap.proofs.Powers.{power_zero}
+use Rattle.table_heap.proofs.Powers.{power_zero, within-bound}
 use Rattle.table_heap.proofs.Sums.{table-sum}
 use Rattle.table_heap.proofs.fill_values.Invariants.{running-some, running_none}
 use Rattle.table_heap.proofs.fill_values.Goals.{then-counts-byte-gt0, else-counts-byte-gt0}
@@ -49,7 +49,8 @@ returns c =
       entries = filled;
       own-sum = c.sum_of.ensures ∙ table-sum P filled P (record { below = λ i. (c.type_inv.pattern i).fits });
       exact =
-          loop.invariant.running.exact
+          c.is_some.ensures
+          ∙ within-bound (length P + 1) (rank P loop.byte) loop.power.largest loop.invariant.running.largest
           ∙ ap (λ (n : ℕ). leb ((length P + 1) ^ n) (2 ^ 64))
           (rank-above P past span.above loop.byte (omega arith) ∙ sym (rank-above P past span.above 256 span.bytes))
           ∙ sym (exact-rank P);

@@ -1,4 +1,4 @@
-use Rattle.std.proofs.Common.{◌≡◌, ℕ, ◌+◌, ◌-◌, ◌<◌, List, length, set, sym, ◌∙◌}
+use Rattle.std.proofs.Common.{◌≡◌, ℕ, ◌+◌, ◌<◌, List, length, set, sym, ◌∙◌}
 use Rattle.jumbled.specs.Match.{cc}
 use Rattle.jumbled.specs.Heap.{rank, heap_value}
 use Rattle.jumbled.proofs.Ranks.{rank-some, rank-none, heap_value-some, heap_value-none}
@@ -35,6 +35,3 @@ module _ (P values : List ℕ) (power : Power) (c : ℕ) (so_far : Running P val
 
 abbrev pub invariant-loop-byte : goal.invariant-loop-byte
 invariant-loop-byte l = Running l.pattern l.values l.power l.byte
-
-abbrev pub decreases-loop-byte : goal.decreases-loop-byte
-decreases-loop-byte l = l.byte-end - l.byte
