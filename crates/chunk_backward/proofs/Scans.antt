@@ -1,21 +1,17 @@
 -- The scan of a backward method by its number, and what is asked for each.
-use mathlib.Core.Path.{◌≡◌, refl, subst}
+use mathlib.Core.Path.{◌≡◌, refl}
 use mathlib.Core.List.{List}
 use mathlib.Core.Logic.{⊎_elim}
 use Prim.Native.Nat.{ℕ, ◌≤◌, ◌<◌}
 use native.Mathlib.Omega.{arith}
-use lib.ListN.{length, get_or}
-use Rattle.std.proofs.Common.{Fits, w8}
+use lib.ListN.{length}
 use borrow.Author.Tests.{eq-eqb, ne_eqb}
-use Rattle.jumbled.specs.Fields.{Layout, layout_of, bits}
 use Rattle.jumbled.specs.Steps.{bam_scan, bam2_scan, abam_scan}
 use Rattle.jumbled.specs.Refusals.{given, method_tests}
 use Rattle.jumbled.proofs.Admission.{method-taken}
 use Rattle.jumbled.proofs.Sums.{below_or_not}
 use Rattle.jumbled.proofs.Methods.{bam-most, bam2-most, abam-most}
-use Rattle.table_packed.specs.Word.{Packed, Packable}
-use Rattle.table_packed.specs.declared.Word.{Word}
-use Rattle.loop_backward.specs.Ranges.{Scannable}
+use Rattle.table_packed.specs.Word.{Packable}
 use Rattle.chunk_backward.specs.Scans.{scan_of}
 
 pub scan-2 : (P : List ℕ) (k method : ℕ) → method ≡ 2 → scan_of P k method ≡ bam_scan P
@@ -45,18 +41,6 @@ scan-inspections P k method short W h =
 
     three : method < 4 → (scan_of P k method W).inspections ≤ 128
     three l = ⊎_elim (λ (g : method < 3). two g) (λ (g : 3 ≤ method). rw (scan-3 P k method (omega arith)) (omega (arith, bam2-most P W))) (below_or_not method 3)
-
--- ---- the tables by the method's number, as each loop asks for them
-
-module _ {P : List ℕ} {k method : ℕ} {word : Word} {units : List ℕ} (packable : Packable P k method) (pattern : (i : ℕ) → Fits w8 (get_or P i 0))
-    (packed : Packed P (layout_of k method) word units) where
-  pub scannable : {L : Layout} → layout_of k method ≡ L → Scannable P L word units
-  scannable e =
-      record {
-        bytes = record { below = λ i. omega (arith, pattern i) };
-        packed = subst (λ (M : Layout). Packed P M word units) e packed;
-        fits = subst (λ (M : Layout). bits P M ≤ 64) e packable.fits;
-      }
 
 -- what 2 to 5 do not refuse can have its tables made
 pub packable : {P : List ℕ} {k method : ℕ} → length P ≤ 64 → k < length P → given (method_tests P k method) ≡ 0 → 2 ≤ method → method ≤ 4 → Packable P k method

@@ -5,6 +5,7 @@
 ghost use Rattle.std.specs.Prelude.{◌≡◌, ◌≤◌, length};
 ghost use Rattle.jumbled.specs.Steps.{ebl_scan};
 ghost use Rattle.table_parikh.specs.Table.{parikh};
+ghost use Rattle.methods.specs.Numbers.{method_number};
 ghost use Rattle.table_packed.specs.Word.{Packable};
 ghost use Rattle.chunk_seam.specs.Joined.{PreparedIn};
 ghost use Rattle.chunk_backward.specs.Scans.{rest_of, FoundBy, FoundFor};
@@ -16,6 +17,8 @@ use loop_backward::{Backward, Reached};
 use loop_bam::Bam;
 use loop_bam2::Bam2;
 use loop_ebl::Ebl;
+use methods::Method;
+use table_widths::PatternFields;
 
 // The window starts of the chunk that are left after those of the tail: the last scan in the tail may pass over some, all of them at most.
 fn rest_of(split: Split, searched: Reached) -> Range
@@ -43,49 +46,57 @@ fn both<M: Backward>(method: &M, joined: Joined, list: &mut [u32]) -> SearchCoun
 }
 
 // Methods 2, 3 and 4 over the seam and then the chunk, by the counts of the pattern.
+#[tactic(auto, unfolding(jumbled::specs::Fields::layout_of, crate::specs::Scans::scan_of))]
 pub fn backward_chunk(
     pattern: &[u8],
     counts: &[u8; 256],
     k: usize,
-    method: u8,
+    method: Method,
     joined: Joined,
     list: &mut [u32],
 ) -> SearchCounts
-    requires prepared { (PreparedIn (length pattern.now) joined list.old) × (Packable pattern.now k method) }
+    requires prepared { (PreparedIn (length pattern.now) joined list.old) × (Packable pattern.now k (method_number method)) }
     requires counted { counts.now ≡ parikh pattern.now }
-    ensures { FoundFor pattern.now k method joined.entry list.old list.new result }
+    ensures { FoundFor pattern.now k (method_number method) joined.entry list.old list.new result }
 {
-    let span = table_parikh::span_of(pattern);
-    let shared = table_packed::shared_field(counts, span, k, method);
+    let fields = PatternFields::of(pattern, counts, k, method);
+    let shared = table_packed::shared_field(&fields);
     let mut units = [shared.unit; 256];
-    let word = table_packed::place_units(counts, span, k, method, shared, &mut units);
+    let word = table_packed::place_units(&fields, shared, &mut units);
     let units = &units;
-    if method == 2 {
-        let bam = Bam {
-            pattern,
-            word,
-            units,
-        };
-        return both(&bam, joined, list);
+    match method {
+        Method::Bam => {
+            let bam = Bam {
+                pattern,
+                word,
+                units,
+            };
+            both(&bam, joined, list)
+        }
+        Method::Bam2 => {
+            let bam2 = Bam2 {
+                pattern,
+                word,
+                units,
+            };
+            both(&bam2, joined, list)
+        }
+        Method::Abam => {
+            let mut tops = [shared.top; 256];
+            table_packed::place_own_tops(&fields, &mut tops);
+            let own_tops = &tops;
+            let abam = Abam {
+                pattern,
+                k,
+                word,
+                units,
+                own_tops,
+            };
+            both(&abam, joined, list)
+        }
+        // No fields.
+        Method::Count | Method::Hcam | Method::Ebl => unreachable!(),
     }
-    if method == 3 {
-        let bam2 = Bam2 {
-            pattern,
-            word,
-            units,
-        };
-        return both(&bam2, joined, list);
-    }
-    let mut tops = [shared.top; 256];
-    table_packed::place_own_tops(counts, span, k, method, &mut tops);
-    let abam = Abam {
-        pattern,
-        k,
-        word,
-        units,
-        own_tops: &tops,
-    };
-    both(&abam, joined, list)
 }
 
 // Method 6 over the seam and then the chunk, by the counts of the pattern.

@@ -58,9 +58,9 @@ fn search_split(
 {
     match method {
         Method::Count => count_chunk(pattern, counts, k as usize, joined, list),
-        Method::Bam => backward_chunk(pattern, counts, k as usize, 2, joined, list),
-        Method::Bam2 => backward_chunk(pattern, counts, k as usize, 3, joined, list),
-        Method::Abam => backward_chunk(pattern, counts, k as usize, 4, joined, list),
+        Method::Bam | Method::Bam2 | Method::Abam => {
+            backward_chunk(pattern, counts, k as usize, method, joined, list)
+        }
         Method::Hcam => hcam_chunk(pattern, counts, joined, list),
         Method::Ebl => ebl_chunk(pattern, counts, joined, list),
     }
