@@ -11,7 +11,9 @@ use Rattle.image_form.specs.Decode.{from_low_first}
 use Rattle.tests_stream.specs.Fillings.{made_length}
 use Rattle.tests_stream.specs.Reading.{nowhere, part_at, bytes_at, next_at, number_with, number_at}
 use Rattle.tests_stream.specs.Texts.{Spelling, spelling, letters, text_with, text_of, plain_spelling, made_spelling, spelling_at, text_at}
-use Rattle.tests_stream.specs.Arguments.{case_text_at, method_at, case_at, kind_at, stored_case_at}
+use Rattle.tests_stream.specs.Kinds.{is_hand}
+use Rattle.tests_stream.specs.declared.cases.Kind.{Kind}
+use Rattle.tests_stream.specs.Arguments.{case_text_at, method_at, case_at, stored_case_at}
 use Rattle.tests_stream.specs.declared.Number.{Number}
 use Rattle.tests_stream.specs.declared.Text.{Text}
 
@@ -85,34 +87,27 @@ module _ (stream : List ℕ) (long : length stream ≤ nowhere) where
       (record { no-earlier = omega arith; at_most = small })
       (then-onward start (spelled-onward (spelling_at stream at longest) start.at_most))
 
-  case-text-onward : (at op longest : ℕ) → at ≤ nowhere → Onward at (case_text_at stream at op longest).next
+  case-text-onward : (at : ℕ) (kind : Kind) (longest : ℕ) → at ≤ nowhere → Onward at (case_text_at stream at kind longest).next
   unfolding case_text_at
-  case-text-onward at op longest small =
+  case-text-onward at kind longest small =
       let hand = spelling at 149 false 0 149 in
-      either-onward (λ (t : Text). t.next) (eqb op 7) (text_of stream hand) (text_at stream at longest)
+      either-onward (λ (t : Text). t.next) (is_hand kind) (text_of stream hand) (text_at stream at longest)
       (spelled-onward hand small) (text-onward at longest small)
 
   -- ---- a case
 
-  arguments-onward : (at op : ℕ) → at ≤ nowhere → Onward at (case_at stream at op).next
+  arguments-onward : (at : ℕ) (kind : Kind) → at ≤ nowhere → Onward at (case_at stream at kind).next
   unfolding case_at method_at
-  arguments-onward at op small =
+  arguments-onward at kind small =
       let pattern = text-onward at _ small in
       let k = number-onward _ _ 255 pattern.at_most in
       let method = number-onward _ _ 255 k.at_most in
-      let text = case-text-onward _ op _ method.at_most in
+      let text = case-text-onward _ kind _ method.at_most in
       let places = number-onward _ _ _ text.at_most in
       then-onward pattern (then-onward k (then-onward method (then-onward text places)))
 
-  kind-onward : (at : ℕ) → at < length stream → Onward (at + 1) (kind_at stream at).next
-  unfolding kind_at
-  kind-onward at inside =
-      let kind = number_at stream at 1 14 in
-      either-onward (λ (n : Number). n.next) (eqb kind.value 0) (number_with 0 nowhere) kind
-      (record { no-earlier = omega arith; at_most = omega arith }) (number_past (at + 1) at 1 14 (omega arith) (omega arith))
-
-  pub case-onward : (at : ℕ) → at < length stream → Onward (at + 1) (stored_case_at stream at).next
+  pub case-onward : (at : ℕ) (kind : Kind) → at < length stream → Onward (at + 1) (stored_case_at stream at kind).next
   unfolding stored_case_at
-  case-onward at inside =
-      let kind = kind-onward at inside in
-      then-onward kind (arguments-onward _ (kind_at stream at).value kind.at_most)
+  case-onward at kind inside =
+      let number = number_past (at + 1) at 1 14 (omega arith) (omega arith) in
+      then-onward number (arguments-onward _ kind number.at_most)

@@ -7,12 +7,12 @@ use Rattle.tests_stream.specs.declared.cases.Shape.{Shape}
 
 -- A kind's arguments: they fit the lent buffers and lists, and its numbers 8 bytes
 pub record Readable (shape : Shape) : Type 0 where
-  pub pattern : shape.0 ≤ 1024
-  pub text : shape.1 ≤ 65537
-  pub k : shape.2 ≤ 8
-  pub method : shape.3 ≤ 8
-  pub places : shape.4 ≤ 8
-  pub most : shape.5 ≤ 65537
+  pub pattern : shape.pattern ≤ 1024
+  pub text : shape.text ≤ 65537
+  pub k : shape.k ≤ 8
+  pub method : shape.method ≤ 8
+  pub places : shape.places ≤ 8
+  pub most : shape.most ≤ 65537
 
 -- A case's pattern and text stand in the first bytes of the buffers, and a list of so many places can be lent
 pub record Lendable (m : ℕ) (pattern_buffer : List ℕ) (n : ℕ) (text_buffer : List ℕ) (places : ℕ) : Type 0 where
