@@ -102,7 +102,7 @@ impl Forward for Hcam<'_> {
             }
             let entering = text[s + m - 1];
             inspections += 1;
-            sum = std::num::wrapping_add_u64(sum, values[entering as usize]);
+            sum = sum.wrapping_add(values[entering as usize]);
             lost += (entering == LOST_HOUR) as usize;
             if may_match(lost, sum == target.sum) {
                 let finding = judge(self.allowed, lost, target.exact, &text[s..s + m]);
@@ -113,7 +113,7 @@ impl Forward for Hcam<'_> {
                 }
             }
             let leaving = text[s];
-            sum = std::num::wrapping_sub_u64(sum, values[leaving as usize]);
+            sum = sum.wrapping_sub(values[leaving as usize]);
             lost -= (leaving == LOST_HOUR) as usize;
         }
         Slid {

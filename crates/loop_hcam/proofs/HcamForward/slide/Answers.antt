@@ -35,27 +35,26 @@ pub overflow_sub-lost : goal.overflow_sub-lost
 overflow_sub-lost c =
     let bytes : Bytes c.args.text.now = record { below = λ i. (c.type_inv.text i).fits } in
     let here = sums-of c.args.self.now.tabled c.requires.fitting bytes c.loop-s.invariant.0 c.loop-s-test.true c.if-list-at.false in
-    there here c.wrapping_add_u64-sum.ensures.value
+    there here refl
 
 pub loop-s-preserved : goal.loop-s-preserved
 loop-s-preserved c =
     let bytes : Bytes c.args.text.now = record { below = λ i. (c.type_inv.text i).fits } in
     let here = sums-of c.args.self.now.tabled c.requires.fitting bytes c.loop-s.invariant.0 c.loop-s-test.true c.if-list-at.false in
-    let added = c.wrapping_add_u64-sum.ensures.value in
     let told = c.may_match.ensures in (
       record {
         -- the search goes on once the window was judged
         progress =
             elim c.if-may_match.branch [
               | then-may_match+then-finding w ↦ rw (w.list-is, w.at-is)
-                  (on-listed here added (found here added (sym told ∙ w.if-may_match.true) w.judge-finding.ensures) w.if-finding.true w.inspections-is)
+                  (on-listed here refl (found here refl (sym told ∙ w.if-may_match.true) w.judge-finding.ensures) w.if-finding.true w.inspections-is)
               | then-may_match+else-finding w ↦ rw (w.list-is, w.at-is)
-                  (on-skipped here added (found here added (sym told ∙ w.if-may_match.true) w.judge-finding.ensures) w.if-finding.false w.inspections-is)
+                  (on-skipped here refl (found here refl (sym told ∙ w.if-may_match.true) w.judge-finding.ensures) w.if-finding.false w.inspections-is)
               | else-may_match w ↦ rw (w.list-is, w.at-is)
-                  (on-skipped here added (none here added (sym told ∙ w.if-may_match.false)) refl (w.inspections-is ∙ omega arith))
+                  (on-skipped here refl (none here refl (sym told ∙ w.if-may_match.false)) refl (w.inspections-is ∙ omega arith))
             ];
         -- and the first byte has left the window
-        state = kept here added (omega arith) c.wrapping_sub_u64-sum.ensures.value;
+        state = kept here refl (omega arith) (omega arith);
       },
       c.loop-s.invariant.1,
     )
