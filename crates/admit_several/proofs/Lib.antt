@@ -1,2 +1,4 @@
 pub mod Documented
 pub mod Taken
+pub mod Selecting
+pub mod Setting

@@ -1,10 +1,10 @@
 -- What it says that none of the tests of several patterns, of a text and of two lists is given, and which numbers they give.
-use mathlib.Core.Path.{◌≡◌, refl, sym, ap, ◌∙◌}
-use mathlib.Core.Bool.{Bool, false, not, ◌||◌}
+use mathlib.Core.Path.{◌≡◌, refl, sym, ap, ap₂, ◌∙◌}
+use mathlib.Core.Bool.{Bool, false, cond, not, ◌||◌}
 use mathlib.Core.List.{List, ◌++◌, append_assoc}
 use Prim.Native.Nat.{ℕ, ◌*◌, ◌≤◌, ◌<◌}
 use native.Mathlib.Omega.{arith}
-use lib.Dec.{eqb, ltb}
+use lib.Dec.{eqb, leb, ltb}
 use lib.ListN.{length, get_or}
 use borrow.Author.Tests.{eqb-true, eqb-false, ltb-false, not-false}
 use Rattle.jumbled.specs.Match.{occurs, lost_hour}
@@ -12,6 +12,7 @@ use Rattle.jumbled.specs.Refusals.{Test, given, any_of, total, bad_length, each_
 use Rattle.jumbled.proofs.Admission.{or-false, Numbered, none, next, given-one, given-append, given-append-none, numbered-append, lost-numbered, lost-taken, tolerance-numbered, tolerance-taken, text-numbered, text-taken}
 use Rattle.jumbled.proofs.Selections.{none-at, Alike, total-alike}
 use Rattle.answers.specs.Numbers.{unless_refused}
+use Rattle.answers.proofs.Refused.{tested-later}
 
 -- ---- 1 and 12
 
@@ -85,6 +86,13 @@ module _ (lengths patterns : List ℕ) (k : ℕ) where
 
   pub several-pattern-number : given (several_pattern_tests lengths patterns k) ≡ unless_refused (given set_part) (given rest) (given set_part)
   several-pattern-number = ap given several-pattern-tests ∙ given-append set_part rest (admit-set-numbered lengths (length patterns))
+
+  -- 13 or 2 where the set is taken
+  pub rest-number : given set_part ≡ 0 → (some large : Bool) → occurs patterns lost_hour ≡ some → leb (get_or lengths 0 0) k ≡ large
+      → cond some 13 (cond large 2 0) ≡ given (several_pattern_tests lengths patterns k)
+  unfolding given lost_tests tolerance_tests
+  rest-number set-right some large e f =
+      ap₂ (λ (t u : Bool). cond t 13 (cond {A = ℕ} u 2 0)) (sym e) (sym f) ∙ tested-later _ (given rest) set-right ∙ sym several-pattern-number
 
   -- what it says that none of them applies
   pub record SeveralTaken : Type 0 where
