@@ -1,5 +1,5 @@
 // Writes the saved form of a search into a lent buffer, if it has room: document 01, "The saved image" and "A search and its calls", and document 02,
-// T-06. First the bytes of n and of the contents, then the whole image, then the call's part of the work.
+// T-06. First the bytes of the contents, then the whole image, then the call's part of the work.
 
 #![tactic(auto)]
 

@@ -32,7 +32,7 @@ fn shown_as(reading: u8) -> u8
     }
 }
 
-// A position, blanks to its left. Its last digit is the first to be known, so the column is filled from the right.
+// A position, blanks to its left. Its last digit is the first to be known, so the column is filled from the right, digit by digit.
 fn position_column(position: usize) -> [u8; POSITION_COLUMN]
     requires { length (decimal position) ≤ 10 }
     ensures { result ≡ right_aligned 10 (decimal position) }
