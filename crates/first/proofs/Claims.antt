@@ -18,9 +18,8 @@ use Rattle.jumbled.proofs.Sums.{below_or_not}
 use Rattle.jumbled.proofs.Admission.{first-as-whole, whole-taken}
 use Rattle.jumbled.proofs.Drivers.{matches_at}
 use Rattle.jumbled.proofs.First.{Earliest, nowhere, found, is-earliest, first_alike, nothing-after, first_short, count-from, hcam-from}
-use Rattle.answers.specs.Answers.{answer_number, answer_found, first_number, first_position, first_inspections}
-use Rattle.answers.specs.declared.Answer.{Answer}
-use Rattle.answers.specs.declared.FirstAnswer.{FirstAnswer}
+use Rattle.answers.specs.Numbers.{answer_number}
+use Rattle.answers.specs.Answers.{Answer, FirstAnswer, answer_found, first_position, first_inspections}
 use Rattle.answers.proofs.Refused.{is_zero}
 use Rattle.search_whole.specs.Whole.{Whole}
 use Rattle.search_whole.proofs.Contract.{whole-accepted}
@@ -65,7 +64,7 @@ module _ (P : List ℕ) (k : ℕ) (T : List ℕ) where
 -- ---- the sentences
 
 -- None exactly where nothing at or after a matches; else the smallest that does
-pub is-first : {P : List ℕ} {k method : ℕ} {T : List ℕ} {a : ℕ} {r : FirstAnswer} → AtOrAfter P k method T a r → first_number r ≡ 0
+pub is-first : {P : List ℕ} {k method : ℕ} {T : List ℕ} {a : ℕ} {r : FirstAnswer} → AtOrAfter P k method T a r → answer_number r ≡ 0
     → IsFirst P k T a (first_position r)
 unfolding first_match
 is-first {P} {k} {T = T} {a} contract ok =
@@ -73,7 +72,7 @@ is-first {P} {k} {T = T} {a} contract ok =
 
 -- A position that is found answers for every start after the last match before it, up to itself, by every method
 pub answers-between : {P : List ℕ} {k method method' : ℕ} {T : List ℕ} {a a' : ℕ} {r r' : FirstAnswer}
-    → AtOrAfter P k method T a r → first_number r ≡ 0 → AtOrAfter P k method' T a' r' → first_number r' ≡ 0 → (p : ℕ) → first_position r ≡ some p
+    → AtOrAfter P k method T a r → answer_number r ≡ 0 → AtOrAfter P k method' T a' r' → answer_number r' ≡ 0 → (p : ℕ) → first_position r ≡ some p
     → a' ≤ p → ((s : ℕ) → MatchFrom P k T 0 s → s < p → s < a') → first_position r' ≡ some p
 answers-between {P} {k} {T = T} {a' = a'} {r' = r'} contract ok contract' ok' p e up_to_lem past = by (first_position r') refl
   where
@@ -130,7 +129,7 @@ from_zero (p ∷ list) = rw (le-leb 0 p (omega arith)) refl
 
 -- The position is the first entry at or after a of the list that any whole search of the text left, whatever its method
 pub entry-of-list : {P : List ℕ} {k method method' : ℕ} {T : List ℕ} {a : ℕ} {r : FirstAnswer} {before after : List ℕ} {w : Answer}
-    → AtOrAfter P k method T a r → first_number r ≡ 0 → Whole P k method' T before after w → answer_number w ≡ 0
+    → AtOrAfter P k method T a r → answer_number r ≡ 0 → Whole P k method' T before after w → answer_number w ≡ 0
     → first_position r ≡ entry_from a (take (answer_found w) after)
 entry-of-list {P} {k} {method' = method'} {T = T} {a = a} {before = before} {after = after} {w = w} contract ok whole done =
     let accepted = whole-accepted whole done in
@@ -141,14 +140,14 @@ entry-of-list {P} {k} {method' = method'} {T = T} {a = a} {before = before} {aft
 
 -- and from 0 on it is the list's first one
 pub entry-from-start : {P : List ℕ} {k method method' : ℕ} {T : List ℕ} {r : FirstAnswer} {before after : List ℕ} {w : Answer}
-    → AtOrAfter P k method T 0 r → first_number r ≡ 0 → Whole P k method' T before after w → answer_number w ≡ 0
+    → AtOrAfter P k method T 0 r → answer_number r ≡ 0 → Whole P k method' T before after w → answer_number w ≡ 0
     → first_position r ≡ first_entry (take (answer_found w) after)
 entry-from-start contract ok whole done = entry-of-list contract ok whole done ∙ from_zero _
 
 -- ---- inspections
 
 -- the pattern's tests are among those of the call
-pattern-taken : {P : List ℕ} {k method : ℕ} {T : List ℕ} {a : ℕ} {r : FirstAnswer} → AtOrAfter P k method T a r → first_number r ≡ 0
+pattern-taken : {P : List ℕ} {k method : ℕ} {T : List ℕ} {a : ℕ} {r : FirstAnswer} → AtOrAfter P k method T a r → answer_number r ≡ 0
     → given (pattern_tests P k method) ≡ 0
 unfolding at_or_after_number
 pattern-taken {P} {k} {method} {T} contract ok =
@@ -156,7 +155,7 @@ pattern-taken {P} {k} {method} {T} contract ok =
 
 -- Two texts that are alike up to the end of the window found have one answer: nothing after it is looked at
 pub not-past : {P : List ℕ} {k method : ℕ} {T U : List ℕ} {a : ℕ} {r r' : FirstAnswer} → Bytes P → Bytes T → Bytes U
-    → AtOrAfter P k method T a r → first_number r ≡ 0 → AtOrAfter P k method U a r' → first_number r' ≡ 0 → (p : ℕ) → first_position r ≡ some p
+    → AtOrAfter P k method T a r → answer_number r ≡ 0 → AtOrAfter P k method U a r' → answer_number r' ≡ 0 → (p : ℕ) → first_position r ≡ some p
     → take (p + length P) T ≡ take (p + length P) U → (first_position r' ≡ some p) × (first_inspections r' ≡ first_inspections r)
 not-past {P} {k} {method} {T} {U} {a} hP hT hU contract ok contract' ok' p e alike =
     let accepted = first-accepted contract ok in
@@ -168,7 +167,7 @@ not-past {P} {k} {method} {T} {U} {a} hP hT hU contract ok contract' ok' p e ali
     )
 
 -- With fewer than m bytes from a on there is no position and no inspection
-pub too-late : {P : List ℕ} {k method : ℕ} {T : List ℕ} {a : ℕ} {r : FirstAnswer} → AtOrAfter P k method T a r → first_number r ≡ 0 → length T < a + length P
+pub too-late : {P : List ℕ} {k method : ℕ} {T : List ℕ} {a : ℕ} {r : FirstAnswer} → AtOrAfter P k method T a r → answer_number r ≡ 0 → length T < a + length P
     → (first_position r ≡ none) × (first_inspections r ≡ 0)
 too-late {P} {k} {method} {T} {a} contract ok short =
     let accepted = first-accepted contract ok in
@@ -177,7 +176,7 @@ too-late {P} {k} {method} {T} {a} contract ok short =
 
 module _ {P : List ℕ} {k : ℕ} {T : List ℕ} {a : ℕ} (hP : Bytes P) (hT : Bytes T) (there : a + length P ≤ length T) where
   -- Counting takes all m bytes of the window at a and the last one of each window after it, up to the position that is found
-  pub counted-to : {r : FirstAnswer} → AtOrAfter P k 1 T a r → first_number r ≡ 0 → (p : ℕ) → first_position r ≡ some p → first_inspections r ≡ length P + (p - a)
+  pub counted-to : {r : FirstAnswer} → AtOrAfter P k 1 T a r → answer_number r ≡ 0 → (p : ℕ) → first_position r ≡ some p → first_inspections r ≡ length P + (p - a)
   counted-to contract ok p e =
       let accepted = first-accepted contract ok in
       let at_p : first_match P k T a ≡ some p = sym accepted.position ∙ e in
@@ -186,14 +185,14 @@ module _ {P : List ℕ} {k : ℕ} {T : List ℕ} {a : ℕ} (hP : Bytes P) (hT : 
       ∙ rw at_p (omega (arith, found-there.not-before))
 
   -- or the text's end
-  pub counted-out : {r : FirstAnswer} → AtOrAfter P k 1 T a r → first_number r ≡ 0 → first_position r ≡ none → first_inspections r ≡ length T - a
+  pub counted-out : {r : FirstAnswer} → AtOrAfter P k 1 T a r → answer_number r ≡ 0 → first_position r ≡ none → first_inspections r ≡ length T - a
   counted-out contract ok e =
       let accepted = first-accepted contract ok in
       let nowhere-there : first_match P k T a ≡ none = sym accepted.position ∙ e in
       accepted.inspections ∙ count-from P k T a hP hT (omega arith) (pattern-taken contract ok) ∙ rw nowhere-there (omega arith)
 
   -- Heap values take as many, and m more for each of these windows that is verified
-  pub summed-to : {r : FirstAnswer} → AtOrAfter P k 5 T a r → first_number r ≡ 0 → (p : ℕ) → first_position r ≡ some p
+  pub summed-to : {r : FirstAnswer} → AtOrAfter P k 5 T a r → answer_number r ≡ 0 → (p : ℕ) → first_position r ≡ some p
       → first_inspections r ≡ length P + (p - a) + length P * length (select (λ s. verified P (window (length P) T s)) a (suc p - a))
   summed-to contract ok p e =
       let accepted = first-accepted contract ok in
@@ -202,7 +201,7 @@ module _ {P : List ℕ} {k : ℕ} {T : List ℕ} {a : ℕ} (hP : Bytes P) (hT : 
       let further : suc p - a - 1 ≡ p - a = omega (arith, found-there.not-before) in
       accepted.inspections ∙ hcam-from P k T a hP hT (omega arith) (pattern-taken contract ok) ∙ rw (at_p, further) refl
 
-  pub summed-out : {r : FirstAnswer} → AtOrAfter P k 5 T a r → first_number r ≡ 0 → first_position r ≡ none
+  pub summed-out : {r : FirstAnswer} → AtOrAfter P k 5 T a r → answer_number r ≡ 0 → first_position r ≡ none
       → first_inspections r ≡ length T - a + length P * length (select (λ s. verified P (window (length P) T s)) a (starts (length P) T - a))
   summed-out contract ok e =
       let accepted = first-accepted contract ok in

@@ -19,7 +19,8 @@ use Rattle.lent.specs.Placed.{placed, shifted}
 use Rattle.lent.specs.declared.SearchCounts.{SearchCounts}
 use Rattle.answers.specs.Numbers.{number_of}
 use Rattle.answers.specs.declared.Refusal.{Refusal}
-use Rattle.answers.specs.declared.FirstAnswer.TheVariants as FirstAnswer
+use Rattle.std.specs.Prelude.{Ok, Err}
+use Rattle.std.specs.Prelude as prelude
 use Rattle.answers.proofs.Refused.{number-positive, on-refusal, on-accepted}
 use Rattle.first.specs.Call.{at_or_after_number, AtOrAfter}
 
@@ -39,7 +40,7 @@ in_place (some p) e = refl
 
 module _ (P : List ℕ) (k method : ℕ) (T : List ℕ) (a : ℕ) where
   -- a refusal reports nothing
-  pub first-refusal : (refusal : Refusal) → number_of refusal ≡ at_or_after_number P k method T → AtOrAfter P k method T a (FirstAnswer.Refused refusal)
+  pub first-refusal : (refusal : Refusal) → number_of refusal ≡ at_or_after_number P k method T → AtOrAfter P k method T a (Err refusal)
   first-refusal refusal e =
       record {
         number = e;
@@ -94,7 +95,7 @@ module _ (P : List ℕ) (k method : ℕ) (T : List ℕ) (a : ℕ) where
       listed = ap (λ (x : Result). x.occurrences) same ∙ by-steps
 
   module _ (accepted : at_or_after_number P k method T ≡ 0) {after : List ℕ} {r : SearchCounts} (holds : Held after r) where
-    pub answer-nothing : r.found ≡ 0 → AtOrAfter P k method T a (FirstAnswer.Nothing r.inspections)
+    pub answer-nothing : r.found ≡ 0 → AtOrAfter P k method T a (Ok (record { position = prelude.None; inspections = r.inspections }))
     answer-nothing e =
         record {
           number = sym accepted;
@@ -104,7 +105,7 @@ module _ (P : List ℕ) (k method : ℕ) (T : List ℕ) (a : ℕ) where
           by-steps = λ q. holds.by-steps;
         }
 
-    pub answer-found : (r.found ≡ 0 → ⊥) → AtOrAfter P k method T a (FirstAnswer.Found (get_or after 0 0) r.inspections)
+    pub answer-found : (r.found ≡ 0 → ⊥) → AtOrAfter P k method T a (Ok (record { position = prelude.Some (get_or after 0 0); inspections = r.inspections }))
     answer-found e =
         record {
           number = sym accepted;

@@ -4,9 +4,7 @@
 
 ghost use Rattle.first.specs.Call.{AtOrAfter};
 
-use answers::Admission;
-pub use answers::{FirstAnswer, Refusal, number_of};
-use lent::least;
+pub use answers::{First, FirstAnswer, Refusal, number_of};
 
 // The first window from a position on that is listed; from past the last window on there is none. The search is that of a feed, with no tail and the
 // text from there on for its chunk: lent one place, it ends with the window that takes it, and reads nothing after that.
@@ -15,31 +13,26 @@ pub fn at_or_after(pattern: &[u8], k: u8, method: u8, text: &[u8], from: usize) 
 {
     let len = text.len();
     // No list is handed in, so there is nothing for 7 to measure: it is asked about a list with a place for each byte.
-    let admitted = search_whole::admit(pattern, k, method, len, len);
-    let admission = admitted.admission;
-    if let Admission::Refused(refusal) = admission {
-        return FirstAnswer::Refused(refusal);
-    }
-    let counts = admitted.counts;
-    let begun = least(from, len);
+    let admitted = search_whole::admit(pattern, k, method, len, len)?;
+    let begun = from.min(len);
     let mut place = [0u32; 1];
     let searched = chunk_search::search_chunk(
         pattern,
-        &counts,
+        &admitted.counts,
         k,
-        method,
+        admitted.method,
         &text[..0],
         &text[begun..],
         begun,
         &mut place,
     );
-    if searched.found == 0 {
-        return FirstAnswer::Nothing {
-            inspections: searched.inspections,
-        };
-    }
-    FirstAnswer::Found {
-        position: place[0] as usize,
+    let position = if searched.found == 0 {
+        None
+    } else {
+        Some(place[0] as usize)
+    };
+    Ok(First {
+        position,
         inspections: searched.inspections, // with those of the window found
-    }
+    })
 }
