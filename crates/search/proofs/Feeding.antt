@@ -1,5 +1,5 @@
 -- A feed's answer, and the search that it hands back.
-use mathlib.Core.Path.{◌≡◌, refl, sym, ap, ◌∙◌}
+use mathlib.Core.Path.{◌≡◌, sym, ap, ◌∙◌}
 use mathlib.Core.List.{List}
 use Prim.Native.Nat.{ℕ, ◌-◌, ◌≤◌}
 use native.Mathlib.Omega.{arith}
@@ -7,19 +7,18 @@ use lib.ListN.{length, length-drop}
 use Rattle.jumbled.specs.Match.{Bytes, positions}
 use Rattle.jumbled.specs.Steps.{steps}
 use Rattle.jumbled.specs.Refusals.{given, chunk_tests, feed_tests}
-use Rattle.jumbled.proofs.Admission.{given-append}
+use Rattle.jumbled.proofs.Admission.{given-append, given-append-none}
 use Rattle.jumbled.proofs.Methods.{methods-list}
 use Rattle.lent.specs.Placed.{placed, shifted}
 use Rattle.answers.specs.Numbers.{number_of, unless_refused}
 use Rattle.answers.specs.declared.Refusal.{Refusal}
-use Rattle.answers.specs.declared.Admission.TheVariants as Admission
 use Rattle.lent.specs.declared.SearchCounts.{SearchCounts}
 use Rattle.search_state.specs.Stored.{last_of}
 use Rattle.answers.proofs.Refused.{number-positive, on-refusal, on-accepted, still-refused, tested-later}
-use Rattle.answers.specs.declared.Answer.TheVariants.{Listed, Refused}
+use Rattle.std.proofs.Common.{Ok, Err}
 use Rattle.search.specs.declared.Search.{Search}
-use Rattle.search.specs.Searches.{pattern_of, stored}
-use Rattle.search.specs.Calls.{handed_tests, handed_number, feed_number, searched_text, FoundBy, fed_parts, Feeds}
+use Rattle.search.specs.Searches.{pattern_of}
+use Rattle.search.specs.Calls.{handed_tests, handed_number, feed_number, searched_text, FoundBy, AnswersFeed}
 use Rattle.search.proofs.Handed.{handed-numbered, sound}
 
 pub length_last : (j : ℕ) (U : List ℕ) → j ≤ length U → length (last_of j U) ≡ j
@@ -31,9 +30,8 @@ module _ (s : Search) (chunk list : List ℕ) where
   feed-number = given-append (handed_tests s) (chunk_tests s.total (length chunk) (length list)) (handed-numbered s)
 
   -- a refusal leaves everything as it was
-  fed-refused : (refusal : Refusal) → number_of refusal ≡ feed_number s chunk list
-      → Feeds s chunk list list (record { answer = Refused refusal; search = s })
-  fed-refused refusal e =
+  fed-refused : (refusal : Refusal) → number_of refusal ≡ feed_number s chunk list → AnswersFeed s chunk list list (Err refusal)
+  fed-refused refusal e next handed =
       record {
         number = e;
         found = on-refusal refusal (feed_number s chunk list) (length (positions (pattern_of s) s.k (searched_text s chunk))) 0 e;
@@ -42,26 +40,23 @@ module _ (s : Search) (chunk list : List ℕ) where
             on-refusal refusal (feed_number s chunk list)
             (placed list 0 (shifted (s.total - s.tail_len) (positions (pattern_of s) s.k (searched_text s chunk)))) list e;
         by-steps = λ q. absurd (let positive = number-positive refusal in omega arith);
-        search = on-refusal refusal (feed_number s chunk list) (stored (fed_parts s chunk)) s e;
+        search = handed;
       }
 
-  pub fed-refused-early : (refusal : Refusal) → number_of refusal ≡ handed_number s
-      → Feeds s chunk list list (record { answer = Refused refusal; search = s })
-  fed-refused-early refusal e = fed-refused refusal (still-refused _ _ (Admission.Refused refusal) refusal refl e ∙ sym feed-number)
+  pub fed-refused-early : (refusal : Refusal) → number_of refusal ≡ handed_number s → AnswersFeed s chunk list list (Err refusal)
+  fed-refused-early refusal e = fed-refused refusal (still-refused _ _ refusal e ∙ sym feed-number)
 
   module _ (right : handed_number s ≡ 0) where
     late : given (chunk_tests s.total (length chunk) (length list)) ≡ feed_number s chunk list
     late = tested-later _ _ right ∙ sym feed-number
 
     pub fed-refused-late : (refusal : Refusal) → number_of refusal ≡ given (chunk_tests s.total (length chunk) (length list))
-        → Feeds s chunk list list (record { answer = Refused refusal; search = s })
+        → AnswersFeed s chunk list list (Err refusal)
     fed-refused-late refusal e = fed-refused refusal (e ∙ late)
 
     pub fed-listed : Bytes (pattern_of s) → Bytes (searched_text s chunk) → given (chunk_tests s.total (length chunk) (length list)) ≡ 0
-        → (after : List ℕ) (search_counts : SearchCounts) (next : Search) → FoundBy s chunk list after search_counts
-        → next ≡ stored (fed_parts s chunk)
-        → Feeds s chunk list after (record { answer = Listed search_counts.found search_counts.inspections; search = next })
-    fed-listed hP hX within after search_counts next found e =
+        → (after : List ℕ) (search_counts : SearchCounts) → FoundBy s chunk list after search_counts → AnswersFeed s chunk list after (Ok search_counts)
+    fed-listed hP hX within after search_counts found next handed =
         let none : feed_number s chunk list ≡ 0 = sym late ∙ within in
         let same : (steps (pattern_of s) s.k s.method (searched_text s chunk)).occurrences ≡ positions (pattern_of s) s.k (searched_text s chunk) =
         methods-list (pattern_of s) s.k s.method (searched_text s chunk) hP hX (sound s right).admits in
@@ -74,5 +69,10 @@ module _ (s : Search) (chunk list : List ℕ) where
               ∙ on-accepted (feed_number s chunk list)
               (placed list 0 (shifted (s.total - s.tail_len) (positions (pattern_of s) s.k (searched_text s chunk)))) list none;
           by-steps = λ q. same;
-          search = e ∙ on-accepted (feed_number s chunk list) (stored (fed_parts s chunk)) s none;
+          search = handed;
         }
+
+  -- a feed that is not refused was of a search and of a chunk that are taken
+  pub fed-taken : feed_number s chunk list ≡ 0 → (handed_number s ≡ 0) × (given (chunk_tests s.total (length chunk) (length list)) ≡ 0)
+  unfolding feed_number feed_tests handed_number
+  fed-taken none = given-append-none (handed_tests s) (chunk_tests s.total (length chunk) (length list)) (handed-numbered s) none

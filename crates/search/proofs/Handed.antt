@@ -10,17 +10,15 @@ use borrow.Author.Tests.{lt-ltb}
 use Rattle.jumbled.specs.Match.{Bytes}
 use Rattle.jumbled.specs.Refusals.{given, length_tests, tail_length, pattern_tests, method_tests, search_tests, set_method_tests}
 use Rattle.jumbled.proofs.Admission.{Numbered, given-append, given-append-none, numbered-append, length-numbered, length_taken, length-again, search-numbered, search-taken, search-fresh}
-use Rattle.answers.specs.Numbers.{number_of, admission_number, unless_refused}
+use Rattle.std.proofs.Common.{Result}
+use Rattle.answers.specs.Numbers.{number_of, unless_refused}
 use Rattle.answers.specs.declared.Refusal.{Refusal}
 use Rattle.answers.specs.declared.Refusal.TheVariants.{PatternLength}
-use Rattle.answers.specs.declared.Admission.{Admission}
-use Rattle.answers.specs.declared.Admission.TheVariants.{Accepted, Refused}
-use Rattle.image_form.specs.Image.{Parts, parts_with}
-use Rattle.answers.proofs.Refused.{on-refusal, on-accepted, still-refused, tested-later}
+use Rattle.image_form.specs.Image.{parts_with}
+use Rattle.answers.proofs.Refused.{still-refused, tested-later}
 use Rattle.search.specs.declared.Search.{Search}
-use Rattle.search.specs.declared.SearchResult.{SearchResult}
-use Rattle.search.specs.Searches.{pattern_of, tail_of, stored, blank_search}
-use Rattle.search.specs.Calls.{handed_tests, handed_number, open_number, Opened, set_method_number, search_with_method, SetsMethod, parts_tests, parts_number, ResultWith}
+use Rattle.search.specs.Searches.{pattern_of, tail_of}
+use Rattle.search.specs.Calls.{handed_tests, handed_number, open_number, set_method_number, parts_tests, parts_number, Makes}
 
 -- ---- the tests of a search handed in
 
@@ -72,26 +70,12 @@ module _ {held : Search} (right : SoundSearch held) where
   pub tail-length : length held.tail ≡ 63 → length (tail_of held) ≡ held.tail_len
   tail-length long = omega (arith, length-take held.tail_len held.tail, tail-fits)
 
--- ---- the search with given parts
-
-module _ (parts : Parts) (admission : Admission) (e : admission_number admission ≡ parts_number parts) where
-  pub held-refused : (refusal : Refusal) → admission ≡ Refused refusal → ResultWith parts (record { admission = admission; search = blank_search })
-  held-refused refusal refused =
-      record { number = e; search = on-refusal refusal (parts_number parts) (stored parts) blank_search (ap admission_number (sym refused) ∙ e) }
-
-  pub held-accepted : admission ≡ Accepted → ResultWith parts (record { admission = admission; search = stored parts })
-  held-accepted accepted =
-      record { number = e; search = on-accepted (parts_number parts) (stored parts) blank_search (sym e ∙ ap admission_number accepted) }
+-- ---- open
 
 -- a fresh search is the one with nothing searched
-pub opened : (P : List ℕ) (k method : ℕ) (r : SearchResult) → ResultWith (parts_with P k method 0 []) r → Opened P k method r
+pub fresh : (P : List ℕ) (k method : ℕ) {search : Search} {r : Result Search Refusal} → Makes (parts_number (parts_with P k method 0 [])) search r → Makes (open_number P k method) search r
 unfolding open_number parts_tests
-opened P k method r held =
-    let fresh = search-fresh P k method in
-    record {
-      number = held.number ∙ fresh;
-      search = held.search ∙ ap (λ (n : ℕ). unless_refused n (stored (parts_with P k method 0 [])) blank_search) fresh;
-    }
+fresh P k method made = record { given = made.given ∙ search-fresh P k method; made = made.made }
 
 -- ---- set method
 
@@ -100,32 +84,8 @@ module _ (s : Search) (new_method : ℕ) where
   unfolding set_method_number set_method_tests handed_number
   set-method-number = given-append (handed_tests s) (method_tests (pattern_of s) s.k new_method) (handed-numbered s)
 
-  module _ (admission : Admission) where
-    -- a refusal changes nothing
-    method-refused : (refusal : Refusal) → admission ≡ Refused refusal → admission_number admission ≡ set_method_number s new_method
-        → SetsMethod s new_method (record { admission = admission; search = s })
-    method-refused refusal refused e =
-        record {
-          number = e;
-          search = on-refusal refusal (set_method_number s new_method) (search_with_method s new_method) s (ap admission_number (sym refused) ∙ e);
-        }
+  pub method-early : (refusal : Refusal) → number_of refusal ≡ handed_number s → number_of refusal ≡ set_method_number s new_method
+  method-early refusal e = still-refused _ _ refusal e ∙ sym set-method-number
 
-    pub method-refused-early : (refusal : Refusal) → admission ≡ Refused refusal → admission_number admission ≡ handed_number s
-        → SetsMethod s new_method (record { admission = admission; search = s })
-    method-refused-early refusal refused e =
-        method-refused refusal refused (still-refused _ _ admission refusal refused e ∙ sym set-method-number)
-
-    module _ (right : handed_number s ≡ 0) (e : admission_number admission ≡ given (method_tests (pattern_of s) s.k new_method)) where
-      late : admission_number admission ≡ set_method_number s new_method
-      late = e ∙ tested-later _ _ right ∙ sym set-method-number
-
-      pub method-refused-late : (refusal : Refusal) → admission ≡ Refused refusal
-          → SetsMethod s new_method (record { admission = admission; search = s })
-      method-refused-late refusal refused = method-refused refusal refused late
-
-      pub method-set : admission ≡ Accepted → SetsMethod s new_method (record { admission = admission; search = search_with_method s new_method })
-      method-set accepted =
-          record {
-            number = late;
-            search = on-accepted (set_method_number s new_method) (search_with_method s new_method) s (sym late ∙ ap admission_number accepted);
-          }
+  pub method-late : handed_number s ≡ 0 → given (method_tests (pattern_of s) s.k new_method) ≡ set_method_number s new_method
+  method-late right = tested-later _ _ right ∙ sym set-method-number

@@ -11,14 +11,13 @@ use Rattle.image_form.specs.Decode.{bad_form, parts_of}
 use Rattle.answers.specs.Numbers.{number_of, unless_refused}
 use Rattle.answers.specs.declared.Refusal.{Refusal}
 use Rattle.answers.specs.declared.Refusal.TheVariants.{Malformed}
-use Rattle.answers.specs.declared.Admission.TheVariants.{Refused}
+use Rattle.std.proofs.Common.{Result, Err}
 use Rattle.answers.proofs.Refused.{on-refusal, still-refused, tested-later}
 use Rattle.search.specs.declared.Search.{Search}
-use Rattle.search.specs.declared.SearchResult.{SearchResult}
-use Rattle.answers.specs.declared.Saving.{Saving}
+use Rattle.answers.specs.Answers.{Saving}
 use Rattle.image_write.specs.Saved.{buffer_number, Saved}
-use Rattle.search.specs.Searches.{parts_of_search, stored, blank_search}
-use Rattle.search.specs.Calls.{handed_tests, handed_number, image_of, save_number, Saves, ResultWith, load_number, Loads}
+use Rattle.search.specs.Searches.{parts_of_search}
+use Rattle.search.specs.Calls.{handed_tests, handed_number, image_of, save_number, Saves, parts_number, load_number, Makes}
 use Rattle.search.proofs.Handed.{handed-numbered}
 
 -- ---- save
@@ -30,9 +29,9 @@ module _ (s : Search) (buffer : List ℕ) where
 
   -- a search that is not taken leaves the buffer as it was
   pub saved-refused : (refusal : Refusal) → number_of refusal ≡ handed_number s
-      → Saves s buffer buffer (record { saving = Saving.Refused refusal; search = s })
+      → Saves s buffer buffer (record { saving = Err refusal; search = s })
   saved-refused refusal e =
-      let number : number_of refusal ≡ save_number s buffer = still-refused _ _ (Refused refusal) refusal refl e ∙ sym save-number in
+      let number : number_of refusal ≡ save_number s buffer = still-refused _ _ refusal e ∙ sym save-number in
       record {
         number = number;
         len = on-refusal refusal (save_number s buffer) (length (image_of s)) 0 number;
@@ -49,12 +48,11 @@ module _ (s : Search) (buffer : List ℕ) where
 
 -- ---- load
 
-pub loaded-bad : (bytes : List ℕ) → bad_form bytes ≡ true → Loads bytes (record { admission = Refused Malformed; search = blank_search })
+pub loaded-bad : (bytes : List ℕ) {search : Search} → bad_form bytes ≡ true → Makes (load_number bytes) search (Err Malformed)
 unfolding load_number load_tests form_tests given
-loaded-bad bytes bad =
-    let number : number_of Malformed ≡ load_number bytes = rw bad refl in
-    record { number = number; search = on-refusal Malformed (load_number bytes) (stored (parts_of bytes)) blank_search number }
+loaded-bad bytes bad = record { given = rw bad refl; made = tt }
 
-pub loaded-good : (bytes : List ℕ) (r : SearchResult) → bad_form bytes ≡ false → ResultWith (parts_of bytes) r → Loads bytes r
+pub loaded-good : (bytes : List ℕ) {search : Search} {r : Result Search Refusal} → bad_form bytes ≡ false → Makes (parts_number (parts_of bytes)) search r
+    → Makes (load_number bytes) search r
 unfolding load_number load_tests form_tests given
-loaded-good bytes r good held = record { number = rw good held.number; search = rw good held.search }
+loaded-good bytes good made = record { given = rw good made.given; made = made.made }

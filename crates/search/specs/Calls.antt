@@ -1,16 +1,18 @@
 -- What each call says: document 01, "A search and its calls" and "When a call says no". Each record has an equation for every result.
-use Rattle.std.specs.Prelude.{◌≡◌, List, [], ◌++◌, ℕ, ◌+◌, ◌-◌, ◌≤◌, length}
+use Rattle.std.specs.Prelude.{◌≡◌, List, [], ◌++◌, ℕ, ◌+◌, ◌-◌, ◌≤◌, length, Result, IfOk}
 use Rattle.jumbled.specs.Match.{positions}
 use Rattle.jumbled.specs.Steps.{steps}
 use Rattle.jumbled.specs.Refusals.{Test, given, length_tests, tail_length, pattern_tests, search_tests, chunk_tests, feed_tests, set_method_tests, save_tests, load_tests}
-use Rattle.table_parikh.specs.Table.{parikh}
 use Rattle.lent.specs.Placed.{placed, shifted}
 use Rattle.lent.specs.Found.{Found}
 use Rattle.lent.specs.declared.SearchCounts.{SearchCounts}
 use Rattle.image_form.specs.Image.{Parts, parts_with, image}
 use Rattle.image_form.specs.Decode.{bad_form, parts_of}
-use Rattle.answers.specs.Numbers.{admission_number, unless_refused}
-use Rattle.answers.specs.Answers.{answer_number, answer_found, answer_inspections, saving_number, saving_length}
+use Rattle.answers.specs.declared.Refusal.{Refusal}
+use Rattle.answers.specs.Numbers.{answer_number, unless_refused}
+use Rattle.answers.specs.Answers.{Answer, answer_found, answer_inspections, saving_length}
+use Rattle.admit_pattern.specs.declared.Admitted.{Admitted}
+use Rattle.admit_pattern.specs.Admits.{TakenAlong}
 use Rattle.search_state.specs.Stored.{last_of}
 use Rattle.search.specs.declared.Search.{Search}
 use Rattle.search.specs.declared.SearchResult.{SearchResult}
@@ -27,14 +29,25 @@ handed_tests s =
 unfoldable pub handed_number : Search → ℕ
 handed_number s = given (handed_tests s)
 
+-- ---- what hands back a search
+
+-- A search that was made, unless a test with this number applies
+pub record Makes (number : ℕ) (search : Search) (r : Result Search Refusal) : Type 0 where
+  pub given : answer_number r ≡ number
+  pub made : IfOk r (λ made. made ≡ search)
+
+-- What a call hands back: the number, and the search that it made, or where it is refused another
+pub record HandsBack (given : ℕ) (made otherwise : Search) (r : SearchResult) : Type 0 where
+  pub number : answer_number r.admission ≡ given
+  pub search : r.search ≡ unless_refused given made otherwise
+
 -- ---- open
 
 unfoldable pub open_number : List ℕ → ℕ → ℕ → ℕ
 open_number P k method = given (pattern_tests P k method)
 
-pub record Opened (P : List ℕ) (k method : ℕ) (r : SearchResult) : Type 0 where
-  pub number : admission_number r.admission ≡ open_number P k method
-  pub search : r.search ≡ unless_refused (open_number P k method) (stored (parts_with P k method 0 [])) blank_search
+abbrev pub Opened : List ℕ → (k method : ℕ) → SearchResult → Type 0
+Opened P k method r = HandsBack (open_number P k method) (stored (parts_with P k method 0 [])) blank_search r
 
 -- ---- feed
 
@@ -45,10 +58,10 @@ feed_number s chunk list = given (feed_tests (handed_tests s) s.total (length ch
 abbrev pub searched_text : Search → List ℕ → List ℕ
 searched_text s chunk = tail_of s ++ chunk
 
--- What the search of a chunk goes by: nothing is refused, and the counts are those of the search's pattern
-pub record Feedable (s : Search) (counts chunk list : List ℕ) : Type 0 where
+-- What the search of a chunk goes by: nothing is refused, and what is taken along is that of the search's pattern and method
+pub record Feedable (s : Search) (admitted : Admitted) (chunk list : List ℕ) : Type 0 where
   pub handed : handed_number s ≡ 0
-  pub counted : counts ≡ parikh (pattern_of s)
+  pub along : TakenAlong (pattern_of s) s.method admitted
   pub chunk-right : given (chunk_tests s.total (length chunk) (length list)) ≡ 0
 
 -- What the steps of the set method list of it, and where
@@ -83,6 +96,12 @@ pub record Feeds (s : Search) (chunk before after : List ℕ) (r : FeedResult) :
       → (steps (pattern_of s) s.k s.method (searched_text s chunk)).occurrences ≡ positions (pattern_of s) s.k (searched_text s chunk)
   pub search : r.search ≡ unless_refused (feed_number s chunk before) (stored (fed_parts s chunk)) s
 
+-- What a feed answers: with the search that it is to hand back, this is a feed
+abbrev pub AnswersFeed : Search → (chunk before after : List ℕ) → Answer → Type 0
+AnswersFeed s chunk before after answer =
+    (next : Search) → next ≡ unless_refused (feed_number s chunk before) (stored (fed_parts s chunk)) s
+    → Feeds s chunk before after (record { answer = answer; search = next })
+
 -- ---- set method
 
 unfoldable pub set_method_number : Search → ℕ → ℕ
@@ -101,9 +120,8 @@ search_with_method s new_method =
       tail_len = s.tail_len;
     }
 
-pub record SetsMethod (s : Search) (new_method : ℕ) (r : SearchResult) : Type 0 where
-  pub number : admission_number r.admission ≡ set_method_number s new_method
-  pub search : r.search ≡ unless_refused (set_method_number s new_method) (search_with_method s new_method) s
+abbrev pub SetsMethod : Search → ℕ → SearchResult → Type 0
+SetsMethod s new_method r = HandsBack (set_method_number s new_method) (search_with_method s new_method) s r
 
 -- ---- save
 
@@ -115,7 +133,7 @@ unfoldable pub save_number : Search → List ℕ → ℕ
 save_number s buffer = given (save_tests (handed_tests s) (length buffer) (length (image_of s)))
 
 pub record Saves (s : Search) (before after : List ℕ) (r : SaveResult) : Type 0 where
-  pub number : saving_number r.saving ≡ save_number s before
+  pub number : answer_number r.saving ≡ save_number s before
   pub len : saving_length r.saving ≡ unless_refused (save_number s before) (length (image_of s)) 0
   pub buffer : after ≡ unless_refused (save_number s before) (placed before 0 (image_of s)) before
   pub search : r.search ≡ s
@@ -129,14 +147,8 @@ parts_tests parts = search_tests parts.pattern parts.k parts.method parts.total 
 abbrev pub parts_number : Parts → ℕ
 parts_number parts = given (parts_tests parts)
 
--- The search with these parts, or the blank one
-pub record ResultWith (parts : Parts) (r : SearchResult) : Type 0 where
-  pub number : admission_number r.admission ≡ parts_number parts
-  pub search : r.search ≡ unless_refused (parts_number parts) (stored parts) blank_search
-
 unfoldable pub load_number : List ℕ → ℕ
 load_number bytes = given (load_tests (bad_form bytes) (parts_tests (parts_of bytes)))
 
-pub record Loads (bytes : List ℕ) (r : SearchResult) : Type 0 where
-  pub number : admission_number r.admission ≡ load_number bytes
-  pub search : r.search ≡ unless_refused (load_number bytes) (stored (parts_of bytes)) blank_search
+abbrev pub Loads : List ℕ → SearchResult → Type 0
+Loads bytes r = HandsBack (load_number bytes) (stored (parts_of bytes)) blank_search r

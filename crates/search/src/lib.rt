@@ -2,13 +2,17 @@
 
 #![tactic(auto)]
 
-ghost use Rattle.std.specs.Prelude.{◌≡◌};
+ghost use Rattle.std.specs.Prelude.{◌≡◌, ◌≤◌, ℕ};
 ghost use Rattle.image_form.specs.Image.{parts_with};
+ghost use Rattle.image_form.specs.Decode.{parts_of};
 ghost use Rattle.admit_pattern.specs.Admits.{Admits};
-ghost use Rattle.search.specs.Searches.{pattern_of, stored};
-ghost use Rattle.search.specs.Calls.{handed_number, Opened, Advancing, Feedable, FoundBy, fed_parts, Feeds, SetsMethod, Saves, ResultWith, Loads};
+ghost use Rattle.search.specs.declared.Search.{Search};
+ghost use Rattle.search.specs.declared.FeedResult.{FeedResult};
+ghost use Rattle.search.specs.declared.SaveResult.{SaveResult};
+ghost use Rattle.search.specs.Searches.{pattern_of, tail_of, stored, blank_search};
+ghost use Rattle.search.specs.Calls.{handed_number, Makes, HandsBack, Opened, Advancing, Feedable, FoundBy, fed_parts, AnswersFeed, Feeds, set_method_number, search_with_method, SetsMethod, Saves, parts_number, load_number, Loads};
 
-use admit_pattern::AdmittedPattern;
+use admit_pattern::Admitted;
 use chunk_search::SearchCounts;
 use image_read::Image;
 // The answers and whole search have crates of their own; all that a caller names is here too.
@@ -50,6 +54,24 @@ pub struct SaveResult {
     pub search: Search,
 }
 
+impl SearchResult {
+    // The search that a call made, or the one that it hands back where it is refused.
+    fn of(made: Result<Search, Refusal>, otherwise: Search) -> SearchResult
+        ensures { (number : ℕ) (search : Search) → Makes number search made → HandsBack number search otherwise result }
+    {
+        match made {
+            Ok(search) => SearchResult {
+                admission: Ok(()),
+                search,
+            },
+            Err(refusal) => SearchResult {
+                admission: Err(refusal),
+                search: otherwise,
+            },
+        }
+    }
+}
+
 impl Search {
     // The longest pattern,
     pub const LONGEST_PATTERN: usize = admit_pattern::LONGEST_PATTERN;
@@ -66,51 +88,58 @@ impl Search {
         tail_len: 0,
     };
 
-    // The search with these parts, if they pass the tests of a search: those of open, then 9.
-    fn with_parts(pattern: &[u8], k: u8, method: u8, total: u32, tail: &[u8]) -> SearchResult
-        ensures { ResultWith (parts_with pattern.now k method total tail.now) result }
+    // Its pattern.
+    fn own_pattern(&self) -> &[u8]
+        requires { self.now.pattern_len ≤ 64 }
+        ensures { result.now ≡ pattern_of self.now }
     {
-        let admitted = search_state::admit_parts(pattern, k, method, total, tail.len());
-        let admission = admitted.admission;
-        if let Admission::Refused(_) = admission {
-            return SearchResult {
-                admission,
-                search: Search::BLANK,
-            };
-        }
-        let pattern_bytes = search_state::stored_pattern(pattern);
-        let tail_bytes = search_state::stored_tail(tail);
-        SearchResult {
-            admission,
-            search: Search {
-                pattern: pattern_bytes,
-                pattern_len: pattern.len(),
-                k,
-                method,
-                total,
-                tail: tail_bytes,
-                tail_len: tail.len(),
-            },
-        }
+        &self.pattern[..self.pattern_len]
+    }
+
+    // Its tail.
+    fn own_tail(&self) -> &[u8]
+        requires { self.now.tail_len ≤ 63 }
+        ensures { result.now ≡ tail_of self.now }
+    {
+        &self.tail[..self.tail_len]
+    }
+
+    // The search with these parts, if they pass the tests of a search: those of open, then 9.
+    fn with_parts(
+        pattern: &[u8],
+        k: u8,
+        method: u8,
+        total: u32,
+        tail: &[u8],
+    ) -> Result<Search, Refusal>
+        ensures { Makes (parts_number (parts_with pattern.now k method total tail.now)) (stored (parts_with pattern.now k method total tail.now)) result }
+    {
+        search_state::admit_parts(pattern, k, method, total, tail.len())?;
+        Ok(Search {
+            pattern: search_state::stored(pattern),
+            pattern_len: pattern.len(),
+            k,
+            method,
+            total,
+            tail: search_state::stored(tail),
+            tail_len: tail.len(),
+        })
     }
 
     // A search for a pattern, of nothing yet.
     pub fn open(pattern: &[u8], k: u8, method: u8) -> SearchResult
         ensures { Opened pattern.now k method result }
     {
-        let no_tail = &pattern[..0];
-        Search::with_parts(pattern, k, method, 0, no_tail)
+        let fresh = Search::with_parts(pattern, k, method, 0, &pattern[..0]);
+        SearchResult::of(fresh, Search::BLANK)
     }
 
     // The search that an image holds.
-    pub fn load(bytes: &[u8]) -> SearchResult
-        ensures { Loads bytes.now result }
+    fn read(bytes: &[u8]) -> Result<Search, Refusal>
+        ensures { Makes (load_number bytes.now) (stored (parts_of bytes.now)) result }
     {
         let Some(image) = Image::of(bytes) else {
-            return SearchResult {
-                admission: Admission::Refused(Refusal::Malformed),
-                search: Search::BLANK,
-            };
+            return Err(Refusal::Malformed);
         };
         Search::with_parts(
             image.pattern(),
@@ -121,65 +150,52 @@ impl Search {
         )
     }
 
-    // The tests of a search handed in, which may have been filled in by hand: those of open, then 9.
-    fn checked(self) -> AdmittedPattern
-        ensures { Admits (pattern_of self) (handed_number self) result }
+    // The same, handed back with whether the image was refused.
+    pub fn load(bytes: &[u8]) -> SearchResult
+        ensures { Loads bytes.now result }
     {
-        let len = self.pattern_len;
-        if Search::LONGEST_PATTERN < len {
-            return admit_pattern::refused_pattern(Refusal::PatternLength);
+        SearchResult::of(Search::read(bytes), Search::BLANK)
+    }
+
+    // The tests of a search handed in, which may have been filled in by hand: those of open, then 9.
+    fn checked(&self) -> Result<Admitted, Refusal>
+        ensures { Admits (pattern_of self.now) self.now.method (handed_number self.now) result }
+    {
+        if Search::LONGEST_PATTERN < self.pattern_len {
+            return Err(Refusal::PatternLength);
         }
-        let pattern = self.pattern;
-        let total = self.total;
-        search_state::admit_parts(&pattern[..len], self.k, self.method, total, self.tail_len)
+        let pattern = self.own_pattern();
+        search_state::admit_parts(pattern, self.k, self.method, self.total, self.tail_len)
+    }
+
+    // The same search with another method, if both are taken.
+    fn with_method(self, method: u8) -> Result<Search, Refusal>
+        ensures { Makes (set_method_number self method) (search_with_method self method) result }
+    {
+        let admitted = self.checked()?;
+        admit_pattern::admit_method(self.own_pattern(), &admitted.counts, self.k, method)?;
+        Ok(Search { method, ..self })
     }
 
     // The same search, to go on by another method.
     pub fn set_method(self, method: u8) -> SearchResult
         ensures { SetsMethod self method result }
     {
-        let admitted = self.checked();
-        let admission = admitted.admission;
-        if let Admission::Refused(_) = admission {
-            return SearchResult {
-                admission,
-                search: self,
-            };
-        }
-        let counts = admitted.counts;
-        let pattern = self.pattern;
-        let len = self.pattern_len;
-        let change = admit_pattern::admit_method(&pattern[..len], &counts, self.k, method);
-        if let Admission::Refused(_) = change {
-            return SearchResult {
-                admission: change,
-                search: self,
-            };
-        }
-        let mut changed = self;
-        changed.method = method;
-        SearchResult {
-            admission: change,
-            search: changed,
-        }
+        SearchResult::of(self.with_method(method), self)
     }
 
     // The positions of the windows that end in the chunk, in the list's first places.
-    fn searched(self, counts: &[u8; 256], chunk: &[u8], list: &mut [u32]) -> SearchCounts
-        requires { Feedable self counts.now chunk.now list.old }
-        ensures { FoundBy self chunk.now list.old list.new result }
+    fn searched(&self, admitted: &Admitted, chunk: &[u8], list: &mut [u32]) -> SearchCounts
+        requires { Feedable self.now admitted.now chunk.now list.old }
+        ensures { FoundBy self.now chunk.now list.old list.new result }
     {
-        let pattern = self.pattern;
-        let len = self.pattern_len;
-        let tail = self.tail;
-        let tail_len = self.tail_len;
-        let base = self.total as usize - tail_len;
+        let base = self.total as usize - self.tail_len;
         chunk_search::search_chunk(
-            &pattern[..len],
-            counts,
+            self.own_pattern(),
+            &admitted.counts,
             self.k,
-            self.method,
-            &tail[..tail_len],
+            admitted.method,
+            self.own_tail(),
             chunk,
             base,
             list,
@@ -191,82 +207,65 @@ impl Search {
         requires { Advancing self chunk.now }
         ensures { result ≡ stored (fed_parts self chunk.now) }
     {
-        let pattern = self.pattern;
-        let len = self.pattern_len;
-        let tail = self.tail;
-        let tail_len = self.tail_len;
         let total = self.total as usize + chunk.len();
-        let keep = search_state::tail_length(len, total);
-        let pattern_bytes = search_state::stored_pattern(&pattern[..len]);
-        let tail_bytes = search_state::next_tail(&tail[..tail_len], chunk, keep);
+        let keep = search_state::tail_length(self.pattern_len, total);
         Search {
-            pattern: pattern_bytes,
-            pattern_len: len,
+            pattern: search_state::stored(self.own_pattern()),
+            pattern_len: self.pattern_len,
             k: self.k,
             method: self.method,
             total: total as u32,
-            tail: tail_bytes,
+            tail: search_state::next_tail(self.own_tail(), chunk, keep),
             tail_len: keep,
         }
+    }
+
+    // What a feed answers.
+    fn answered(self, chunk: &[u8], list: &mut [u32]) -> Answer
+        ensures { AnswersFeed self chunk.now list.old list.new result }
+    {
+        let admitted = self.checked()?;
+        admit_chunk::limits(Search::LONGEST_CHUNK, self.total, chunk.len(), list.len())?;
+        Ok(self.searched(&admitted, chunk, list))
     }
 
     // A chunk more: the positions of the windows that end in it, in the list's first places.
     pub fn feed(self, chunk: &[u8], list: &mut [u32]) -> FeedResult
         ensures { Feeds self chunk.now list.old list.new result }
     {
-        let admitted = self.checked();
-        let admission = admitted.admission;
-        if let Admission::Refused(refusal) = admission {
-            return FeedResult {
-                answer: Answer::Refused(refusal),
-                search: self,
-            };
-        }
-        let longest = Search::LONGEST_CHUNK;
-        let limits = admit_chunk::limits(longest, self.total, chunk.len(), list.len());
-        if let Admission::Refused(refusal) = limits {
-            return FeedResult {
-                answer: Answer::Refused(refusal),
-                search: self, // as it came, and the list too
-            };
-        }
-        let counts = admitted.counts;
-        let search_counts = self.searched(&counts, chunk, list);
-        FeedResult {
-            answer: Answer::Listed {
-                found: search_counts.found,
-                inspections: search_counts.inspections,
+        match self.answered(chunk, list) {
+            Ok(counts) => FeedResult {
+                answer: Ok(counts),
+                search: self.advanced(chunk),
             },
-            search: self.advanced(chunk),
+            Err(refusal) => FeedResult {
+                answer: Err(refusal),
+                search: self, // as it came, and the list too
+            },
         }
+    }
+
+    // What a save answers.
+    fn saved(&self, buffer: &mut [u8]) -> Saving
+        ensures { Saves self.now buffer.old buffer.new (record { saving = result; search = self.now }) }
+    {
+        self.checked()?;
+        image_write::save_parts(
+            self.own_pattern(),
+            self.k,
+            self.method,
+            self.total,
+            self.own_tail(),
+            buffer,
+        )
     }
 
     // The search's image in the buffer's first bytes, and the search as it came.
     pub fn save(self, buffer: &mut [u8]) -> SaveResult
         ensures { Saves self buffer.old buffer.new result }
     {
-        let admitted = self.checked();
-        let admission = admitted.admission;
-        if let Admission::Refused(refusal) = admission {
-            return SaveResult {
-                saving: Saving::Refused(refusal),
-                search: self,
-            };
-        }
-        let pattern = self.pattern;
-        let len = self.pattern_len;
-        let tail = self.tail;
-        let tail_len = self.tail_len;
-        let saving = image_write::save_parts(
-            &pattern[..len],
-            self.k,
-            self.method,
-            self.total,
-            &tail[..tail_len],
-            buffer,
-        );
         SaveResult {
-            saving,
+            saving: self.saved(buffer),
             search: self,
         }
     }

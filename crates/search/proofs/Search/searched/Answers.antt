@@ -1,58 +1,43 @@
 -- `search::Search::searched` meets its contract.
-use mathlib.Core.Path.{◌≡◌, sym}
-use Prim.Native.Nat.{◌-◌, ◌<◌}
-use native.Mathlib.Omega.{arith}
-use lib.ListN.{length}
+use Rattle.std.proofs.Common.{◌≡◌, ◌<◌, ◌-◌, length, arith, rules}
 use Rattle.jumbled.proofs.Admission.{admitted, method-given, ChunkTaken, chunk-taken}
 use Rattle.chunk_search.proofs.Room.{places-there, all-stepped}
+use Rattle.search.specs.declared.Search.{Search}
 use Rattle.search.specs.Searches.{pattern_of, tail_of}
 use Rattle.search.proofs.Handed.{SoundSearch, sound, pattern-length, tail-fits, tail-length}
-use borrow.Author.Rules.{rules}
 use Rattle.search.proofs.Search.searched.Goals as goal
 
 pub overflow_sub-base : goal.overflow_sub-base
 overflow_sub-base c =
-    let right : SoundSearch c.args.self = sound c.args.self c.requires.handed in
+    let right : SoundSearch c.args.self.now = sound c.args.self.now c.requires.handed in
     omega (arith, right.tail-right)
 
-pub slice_bounds-pattern-end : goal.slice_bounds-pattern-end
-slice_bounds-pattern-end c =
-    let right : SoundSearch c.args.self = sound c.args.self c.requires.handed in
-    let lengths : (length c.args.self.pattern ≡ 64) × (length c.args.self.tail ≡ 63) = (search rules, search rules) in
-    omega (arith, right.short, lengths.0)
+pub own_pattern-requires : goal.own_pattern-requires
+own_pattern-requires c = (sound c.args.self.now c.requires.handed).short
 
-pub slice_bounds-search_chunk-end : goal.slice_bounds-search_chunk-end
-slice_bounds-search_chunk-end c =
-    let right : SoundSearch c.args.self = sound c.args.self c.requires.handed in
-    let lengths : (length c.args.self.pattern ≡ 64) × (length c.args.self.tail ≡ 63) = (search rules, search rules) in
-    sym (pattern-length right lengths.0)
+pub own_tail-requires : goal.own_tail-requires
+own_tail-requires c = tail-fits (sound c.args.self.now c.requires.handed)
 
-pub slice_bounds-tail-end : goal.slice_bounds-tail-end
-slice_bounds-tail-end c =
-    let right : SoundSearch c.args.self = sound c.args.self c.requires.handed in
-    let lengths : (length c.args.self.pattern ≡ 64) × (length c.args.self.tail ≡ 63) = (search rules, search rules) in
-    omega (arith, tail-fits right, lengths.1)
-
-pub slice_bounds-search_chunk-end-2 : goal.slice_bounds-search_chunk-end-2
-slice_bounds-search_chunk-end-2 c =
-    let right : SoundSearch c.args.self = sound c.args.self c.requires.handed in
-    let lengths : (length c.args.self.pattern ≡ 64) × (length c.args.self.tail ≡ 63) = (search rules, search rules) in
-    sym (tail-length right lengths.1)
+-- the tail is shorter than the pattern
+short-tail : {s : Search} → SoundSearch s → length s.pattern ≡ 64 → length s.tail ≡ 63 → length (tail_of s) < length (pattern_of s)
+short-tail {s} right pattern-long tail-long =
+    let admits = admitted (pattern_of s) s.k s.method right.admits in
+    let m = pattern-length right pattern-long in
+    let t = tail-length right tail-long in
+    omega (arith, admits.some, right.tail-right)
 
 pub search_chunk-requires : goal.search_chunk-requires
 search_chunk-requires c =
-    let right : SoundSearch c.args.self = sound c.args.self c.requires.handed in
-    let lengths : (length c.args.self.pattern ≡ 64) × (length c.args.self.tail ≡ 63) = (search rules, search rules) in
-    let limits : let args = c.args in ChunkTaken args.self.total (length args.chunk.now) (length args.list.now) = let args = c.args in chunk-taken args.self.total (length args.chunk.now) (length args.list.now) c.requires.chunk-right in
-    let tail-short : let held = c.args.self in length (tail_of held) < length (pattern_of held) = let held = c.args.self in
+    let held = c.args.self.now in
+    let right : SoundSearch held = sound held c.requires.handed in
+    let pattern-long : length held.pattern ≡ 64 = search rules in
+    let tail-long : length held.tail ≡ 63 = search rules in
+    let limits : ChunkTaken held.total (length c.args.chunk.now) (length c.args.list.now) = chunk-taken held.total (length c.args.chunk.now) (length c.args.list.now) c.requires.chunk-right in
+    let tail-short = short-tail right pattern-long tail-long in
     let admits = admitted (pattern_of held) held.k held.method right.admits in
-    let m = pattern-length right lengths.0 in
-    let t = tail-length right lengths.1 in
-    omega (arith, admits.some, right.tail-right) in
-    let held = c.args.self in
-    let admits = admitted (pattern_of held) held.k held.method right.admits in
-    let t = tail-length right lengths.1 in
-    record {
+    let t = tail-length right tail-long in
+    rw (c.own_pattern.ensures, c.own_tail.ensures, c.requires.along.named)
+    (record {
       joinable =
           record {
             short = admits.short;
@@ -62,22 +47,18 @@ search_chunk-requires c =
           };
       taken =
           record {
-            counted = c.requires.counted;
+            counted = c.requires.along.counted;
             within = admits.within;
             method-right = method-given (pattern_of held) held.k held.method right.admits;
           };
-    }
+    })
 
 pub returns : goal.returns
 returns c =
-    let right : SoundSearch c.args.self = sound c.args.self c.requires.handed in
-    let lengths : (length c.args.self.pattern ≡ 64) × (length c.args.self.tail ≡ 63) = (search rules, search rules) in
-    let limits : let args = c.args in ChunkTaken args.self.total (length args.chunk.now) (length args.list.now) = let args = c.args in chunk-taken args.self.total (length args.chunk.now) (length args.list.now) c.requires.chunk-right in
-    let tail-short : let held = c.args.self in length (tail_of held) < length (pattern_of held) = let held = c.args.self in
-    let admits = admitted (pattern_of held) held.k held.method right.admits in
-    let m = pattern-length right lengths.0 in
-    let t = tail-length right lengths.1 in
-    omega (arith, admits.some, right.tail-right) in
-    let held = c.args.self in
-    all-stepped (pattern_of held) (tail_of held) c.args.chunk.now c.args.list.now tail-short limits.size.room held.k held.method
-    (held.total - held.tail_len) c.search_chunk.ensures
+    let held = c.args.self.now in
+    let right : SoundSearch held = sound held c.requires.handed in
+    let pattern-long : length held.pattern ≡ 64 = search rules in
+    let tail-long : length held.tail ≡ 63 = search rules in
+    let limits : ChunkTaken held.total (length c.args.chunk.now) (length c.args.list.now) = chunk-taken held.total (length c.args.chunk.now) (length c.args.list.now) c.requires.chunk-right in
+    all-stepped (pattern_of held) (tail_of held) c.args.chunk.now c.args.list.now (short-tail right pattern-long tail-long) limits.size.room held.k held.method
+    (held.total - held.tail_len) (rw (c.own_pattern.ensures, c.own_tail.ensures, c.requires.along.named) at c.search_chunk.ensures)

@@ -1,46 +1,29 @@
 -- `search::Search::with_parts` meets its contract.
-use mathlib.Core.Path.{◌≡◌, sym, ap, ◌∙◌}
-use native.Mathlib.Omega.{arith}
-use lib.ListN.{length}
-use Rattle.jumbled.specs.Refusals.{tail_length}
-use Rattle.jumbled.proofs.Admission.{Admitted, admitted, search-taken}
-use Rattle.answers.specs.Numbers.{admission_number}
-use Rattle.image_form.specs.Image.{Parts, parts_with}
-use Rattle.search.specs.Calls.{parts_tests, parts_number}
-use Rattle.search.proofs.Handed.{held-refused, held-accepted}
+use Rattle.std.proofs.Common.{length, refl, sym, arith}
+use Rattle.std.proofs.lemmas.Result.{err_from_is_err_and}
+use lib.Dec.{lit<}
+use Rattle.jumbled.proofs.Admission.{admitted, search-taken}
+use Rattle.search.specs.Calls.{parts_tests}
 use Rattle.search.proofs.Search.with_parts.Goals as goal
 
-pub returns-in-Refused : goal.returns-in-Refused
+pub returns-in_err-admit_parts : goal.returns-in_err-admit_parts
 unfolding parts_tests
-returns-in-Refused c =
-    let parts-of : Parts = parts_with c.args.pattern.now c.args.k c.args.method c.args.total c.args.tail.now in
-    held-refused parts-of _ c.admit_parts-admitted.ensures.number _ c.in-Refused.is
+returns-in_err-admit_parts c =
+    let refused = err_from_is_err_and c.from_residual.result c.from_residual.ensures.1 in
+    rw (refused.1, refused.2) (record { given = c.in_err-admit_parts.ensures.number; made = tt })
 
-pub stored_pattern-pattern_bytes-requires : goal.stored_pattern-pattern_bytes-requires
-unfolding parts_tests
-stored_pattern-pattern_bytes-requires c =
-    let parts-of : Parts = parts_with c.args.pattern.now c.args.k c.args.method c.args.total c.args.tail.now in
-    let accepted : parts_number parts-of ≡ 0 = sym c.admit_parts-admitted.ensures.number ∙ ap admission_number c.in_default.is in
-    let right : let args = c.args in
-    Admitted args.pattern.now args.k args.method × (length args.tail.now ≡ tail_length (length args.pattern.now) args.total) = let args = c.args in
-    let none = search-taken args.pattern.now args.k args.method args.total (length args.tail.now) accepted in
-    (admitted args.pattern.now args.k args.method none.0, none.1) in
-    right.0.short
+pub stored-requires : goal.stored-requires
+stored-requires c =
+    let args = c.args in
+    let none = search-taken args.pattern.now args.k args.method args.total (length args.tail.now) (sym c.in_ok-admit_parts.ensures.number) in
+    (lit< tt, (admitted args.pattern.now args.k args.method none.0).short)
 
-pub stored_tail-tail_bytes-requires : goal.stored_tail-tail_bytes-requires
-unfolding parts_tests
-stored_tail-tail_bytes-requires c =
-    let parts-of : Parts = parts_with c.args.pattern.now c.args.k c.args.method c.args.total c.args.tail.now in
-    let accepted : parts_number parts-of ≡ 0 = sym c.admit_parts-admitted.ensures.number ∙ ap admission_number c.in_default.is in
-    let right : let args = c.args in
-    Admitted args.pattern.now args.k args.method × (length args.tail.now ≡ tail_length (length args.pattern.now) args.total) = let args = c.args in
-    let none = search-taken args.pattern.now args.k args.method args.total (length args.tail.now) accepted in
-    (admitted args.pattern.now args.k args.method none.0, none.1) in
-    let parts = right in omega (arith, parts.0.short, parts.1)
+pub stored-requires-2 : goal.stored-requires-2
+stored-requires-2 c =
+    let args = c.args in
+    let none = search-taken args.pattern.now args.k args.method args.total (length args.tail.now) (sym c.in_ok-admit_parts.ensures.number) in
+    let short = (admitted args.pattern.now args.k args.method none.0).short in (lit< tt, omega (arith, none.1))
 
 pub returns : goal.returns
 unfolding parts_tests
-returns c =
-    let parts-of : Parts = parts_with c.args.pattern.now c.args.k c.args.method c.args.total c.args.tail.now in
-    rw (c.stored_pattern-pattern_bytes.ensures, c.stored_tail-tail_bytes.ensures)
-    (held-accepted parts-of _ c.admit_parts-admitted.ensures.number c.in_default.is)
+returns c = record { given = c.in_ok-admit_parts.ensures.number; made = rw (c.stored.ensures, c.stored-2.ensures) refl }
