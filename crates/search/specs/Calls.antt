@@ -46,8 +46,10 @@ pub record HandsBack (given : ℕ) (made otherwise : Search) (r : SearchResult) 
 unfoldable pub open_number : List ℕ → ℕ → ℕ → ℕ
 open_number P k method = given (pattern_tests P k method)
 
-abbrev pub Opened : List ℕ → (k method : ℕ) → SearchResult → Type 0
-Opened P k method r = HandsBack (open_number P k method) (stored (parts_with P k method 0 [])) blank_search r
+-- The three calls that make a search have a record each, not `HandsBack` at their numbers: of a record antt finds the arguments in the theorems above
+pub record Opened (P : List ℕ) (k method : ℕ) (r : SearchResult) : Type 0 where
+  pub number : answer_number r.admission ≡ open_number P k method
+  pub search : r.search ≡ unless_refused (open_number P k method) (stored (parts_with P k method 0 [])) blank_search
 
 -- ---- feed
 
@@ -120,8 +122,9 @@ search_with_method s new_method =
       tail_len = s.tail_len;
     }
 
-abbrev pub SetsMethod : Search → ℕ → SearchResult → Type 0
-SetsMethod s new_method r = HandsBack (set_method_number s new_method) (search_with_method s new_method) s r
+pub record SetsMethod (s : Search) (new_method : ℕ) (r : SearchResult) : Type 0 where
+  pub number : answer_number r.admission ≡ set_method_number s new_method
+  pub search : r.search ≡ unless_refused (set_method_number s new_method) (search_with_method s new_method) s
 
 -- ---- save
 
@@ -150,5 +153,6 @@ parts_number parts = given (parts_tests parts)
 unfoldable pub load_number : List ℕ → ℕ
 load_number bytes = given (load_tests (bad_form bytes) (parts_tests (parts_of bytes)))
 
-abbrev pub Loads : List ℕ → SearchResult → Type 0
-Loads bytes r = HandsBack (load_number bytes) (stored (parts_of bytes)) blank_search r
+pub record Loads (bytes : List ℕ) (r : SearchResult) : Type 0 where
+  pub number : answer_number r.admission ≡ load_number bytes
+  pub search : r.search ≡ unless_refused (load_number bytes) (stored (parts_of bytes)) blank_search

@@ -13,9 +13,8 @@ use Rattle.jumbled.proofs.Former.{Amended, amended-number, amended-append, amend
 use Rattle.lent.specs.Placed.{placed, shifted}
 use Rattle.image_form.specs.Image.{Parts}
 use Rattle.image_form.specs.Decode.{bad_form, parts_of}
-use Rattle.answers.specs.declared.Answer.{Answer}
-use Rattle.answers.specs.Numbers.{admission_number}
-use Rattle.answers.specs.Answers.{answer_number, answer_found, answer_inspections, saving_number}
+use Rattle.answers.specs.Numbers.{answer_number}
+use Rattle.answers.specs.Answers.{Answer, answer_found, answer_inspections}
 use Rattle.search_whole.specs.Whole.{Whole, whole_number}
 use Rattle.search.specs.declared.Search.{Search}
 use Rattle.search.specs.declared.SearchResult.{SearchResult}
@@ -47,7 +46,7 @@ handed-amended s = amended-after (length_tests s.pattern_len) (search-amended (p
 -- ---- numbers
 
 pub open-number-as-before : {P : List ℕ} {k method : ℕ} {r : SearchResult} → Opened P k method r
-    → Still (former_pattern_tests P k method) (admission_number r.admission)
+    → Still (former_pattern_tests P k method) (answer_number r.admission)
 unfolding open_number
 open-number-as-before {P} {k} {method} contract not5 = contract.number ∙ amended-number (pattern-amended P k method) not5
 
@@ -64,13 +63,13 @@ feed-number-as-before {s} {chunk} {before} contract not5 =
     contract.number ∙ amended-number (amended-before (handed-amended s) (chunk_tests s.total (length chunk) (length before))) not5
 
 pub set-number-as-before : {s : Search} {new_method : ℕ} {r : SearchResult} → SetsMethod s new_method r
-    → Still (former_handed_tests s ++ former_method_tests (pattern_of s) s.k new_method) (admission_number r.admission)
+    → Still (former_handed_tests s ++ former_method_tests (pattern_of s) s.k new_method) (answer_number r.admission)
 unfolding set_method_number set_method_tests
 set-number-as-before {s} {new_method} contract not5 =
     contract.number ∙ amended-number (amended-append (handed-amended s) (method-amended (pattern_of s) s.k new_method)) not5
 
 pub save-number-as-before : {s : Search} {before after : List ℕ} {r : SaveResult} → Saves s before after r
-    → Still (save_tests (former_handed_tests s) (length before) (length (image_of s))) (saving_number r.saving)
+    → Still (save_tests (former_handed_tests s) (length before) (length (image_of s))) (answer_number r.saving)
 unfolding save_number save_tests
 save-number-as-before {s} {before} contract not5 =
     contract.number ∙ amended-number (amended-before (handed-amended s) (buffer_tests (length before) (length (image_of s)))) not5
@@ -80,7 +79,7 @@ abbrev former_parts_tests : Parts → List Test
 former_parts_tests parts = former_search_tests parts.pattern parts.k parts.method parts.total (length parts.tail)
 
 pub load-number-as-before : {bytes : List ℕ} {r : SearchResult} → Loads bytes r
-    → Still (load_tests (bad_form bytes) (former_parts_tests (parts_of bytes))) (admission_number r.admission)
+    → Still (load_tests (bad_form bytes) (former_parts_tests (parts_of bytes))) (answer_number r.admission)
 unfolding load_number load_tests parts_tests
 load-number-as-before {bytes} contract not5 =
     let parts = parts_of bytes in

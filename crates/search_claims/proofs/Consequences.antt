@@ -14,9 +14,8 @@ use Rattle.jumbled.proofs.Positions as Positions
 use Rattle.lent.specs.Placed.{placed, shifted, FirstPlaces}
 use Rattle.lent.proofs.Placing.{shifted-zero, first-places}
 use Rattle.image_form.specs.Image.{Parts, parts_with, image}
-use Rattle.answers.specs.declared.Answer.{Answer}
-use Rattle.answers.specs.Numbers.{admission_number, unless_refused}
-use Rattle.answers.specs.Answers.{answer_number, answer_found, answer_inspections, saving_number}
+use Rattle.answers.specs.Numbers.{answer_number, unless_refused}
+use Rattle.answers.specs.Answers.{Answer, answer_found, answer_inspections}
 use Rattle.search_whole.specs.Whole.{Whole, whole_number}
 use Rattle.search_whole.proofs.Wholes.{whole-late}
 use Rattle.search_state.specs.Stored.{last_of}
@@ -75,7 +74,7 @@ feed-by-steps {s} {chunk} {before} contract ok =
 
 -- a whole search answers as a feed of all of the text on a fresh search does ("Whole search")
 module _ {P : List ℕ} {k method : ℕ} {T before after after' : List ℕ} {o : SearchResult} {fed : FeedResult} {r : Answer}
-    (open-contract : Opened P k method o) (ok : admission_number o.admission ≡ 0) (feed-contract : Feeds o.search T before after fed)
+    (open-contract : Opened P k method o) (ok : answer_number o.admission ≡ 0) (feed-contract : Feeds o.search T before after fed)
     (contract : Whole P k method T before after' r) where
   abbrev begun-search : Search
   begun-search = stored (parts_with P k method 0 [])
@@ -186,7 +185,7 @@ module _ {P : List ℕ} {k method : ℕ} where
 
       -- a set method for the new method alone,
       pub set-number : {new_method : ℕ} {r : SearchResult} → SetsMethod s new_method r
-          → admission_number r.admission ≡ given (method_tests L.pattern L.k new_method)
+          → answer_number r.admission ≡ given (method_tests L.pattern L.k new_method)
       unfolding set_method_number set_method_tests handed_number
       set-number {new_method} contract =
           contract.number
@@ -195,7 +194,7 @@ module _ {P : List ℕ} {k method : ℕ} where
 
       -- and a save for its buffer alone, which needs the room of the ledger's image
       pub save-number : {before after : List ℕ} {r : SaveResult} → Saves s before after r
-          → saving_number r.saving ≡ given (buffer_tests (length before) (length (image (ledger_parts L))))
+          → answer_number r.saving ≡ given (buffer_tests (length before) (length (image (ledger_parts L))))
       unfolding save_number save_tests handed_number
       save-number {before} contract =
           contract.number
@@ -240,30 +239,30 @@ module _ {P : List ℕ} {k method : ℕ} where
           let one : answer_number r.answer ≡ 1 = (series (feeds run contract)).2 current in
           (one, feed-refused contract (λ e. omega arith), feed-keeps-search contract (λ e. omega arith) ∙ blank-together.0 current)
 
-      pub set-while-blank : {new_method : ℕ} {r : SearchResult} → SetsMethod s new_method r → admission_number r.admission ≡ 1
+      pub set-while-blank : {new_method : ℕ} {r : SearchResult} → SetsMethod s new_method r → answer_number r.admission ≡ 1
       unfolding Right
       set-while-blank contract = (series (sets run contract)).1 current
 
-      pub save-while-blank : {before after : List ℕ} {r : SaveResult} → Saves s before after r → (saving_number r.saving ≡ 1) × NothingSaved before after r
+      pub save-while-blank : {before after : List ℕ} {r : SaveResult} → Saves s before after r → (answer_number r.saving ≡ 1) × NothingSaved before after r
       unfolding Right
       save-while-blank {r = r} contract =
-          let one : saving_number r.saving ≡ 1 = (series (saves run contract)).1 current in
+          let one : answer_number r.saving ≡ 1 = (series (saves run contract)).1 current in
           (one, save-refused contract (λ e. omega arith))
 
     -- a load of an image that a save of the series wrote is accepted, and gives the search of the copy that it means
     pub load-brings-back : {bytes : List ℕ} {which : ℕ} {r : SearchResult} → Loads bytes r → KeptAs bytes (history P k method events).kept which
-        → (L : Ledger) → brought_back (history P k method events).kept which ≡ holds L → (admission_number r.admission ≡ 0) × (r.search ≡ ledger_search L)
+        → (L : Ledger) → brought_back (history P k method events).kept which ≡ holds L → (answer_number r.admission ≡ 0) × (r.search ≡ ledger_search L)
     unfolding Right history after_event
     load-brings-back {r = r} contract found L meant =
         let right = series (loads run contract (inl found)) in
-        let ok : admission_number r.admission ≡ 0 = right.1 found in
+        let ok : answer_number r.admission ≡ 0 = right.1 found in
         (ok, (subst (λ (c : Current). AfterCall c r.search) meant (rw ok at right.2)).search)
 
   -- save then load, with nothing between, gives the search back in every stored byte
   module _ {s : Search} {events : List Event} (run : Run P k method s events) (L : Ledger) (current : (history P k method events).current ≡ holds L)
-      {before after : List ℕ} {r : SaveResult} (contract : Saves s before after r) (ok : saving_number r.saving ≡ 0) where
+      {before after : List ℕ} {r : SaveResult} (contract : Saves s before after r) (ok : answer_number r.saving ≡ 0) where
     abbrev with-save : List Event
-    with-save = saved (written_image after r) (verdict (saving_number r.saving)) ∷ events
+    with-save = saved (written_image after r) (verdict (answer_number r.saving)) ∷ events
 
     kept-first : KeptAs (written_image after r) (history P k method with-save).kept 0
     unfolding history after_event
@@ -273,7 +272,7 @@ module _ {P : List ℕ} {k method : ℕ} where
     unfolding history after_event
     kept-ledger = rw (ok, current) refl
 
-    pub save-then-load : {r' : SearchResult} → Loads (written_image after r) r' → (admission_number r'.admission ≡ 0) × (r'.search ≡ s)
+    pub save-then-load : {r' : SearchResult} → Loads (written_image after r) r' → (answer_number r'.admission ≡ 0) × (r'.search ≡ s)
     save-then-load loaded =
         let back = load-brings-back (saves run contract) loaded kept-first L kept-ledger in
         (back.0, back.1 ∙ sym (search-known run L current))
@@ -283,14 +282,14 @@ module _ {P : List ℕ} {k method : ℕ} where
 -- A search for P and k of a text that came in chunks, each call accepted; `joined` is what the feeds put in the first places of their lists,
 -- one after the other. Between two chunks the method may change, and the search may be saved and loaded.
 pub data Chunked (P : List ℕ) (k : ℕ) : Search → (text joined : List ℕ) → Type 0 where
-  begun : {method : ℕ} {r : SearchResult} → Opened P k method r → admission_number r.admission ≡ 0 → Chunked P k r.search [] []
+  begun : {method : ℕ} {r : SearchResult} → Opened P k method r → answer_number r.admission ≡ 0 → Chunked P k r.search [] []
   fed-on : {s : Search} {text joined : List ℕ} → Chunked P k s text joined
       → {chunk before after : List ℕ} {r : FeedResult} → Feeds s chunk before after r → answer_number r.answer ≡ 0
       → Chunked P k r.search (text ++ chunk) (joined ++ take (answer_found r.answer) after)
   handed-over : {s : Search} {text joined : List ℕ} → Chunked P k s text joined
-      → {new_method : ℕ} {r : SearchResult} → SetsMethod s new_method r → admission_number r.admission ≡ 0 → Chunked P k r.search text joined
+      → {new_method : ℕ} {r : SearchResult} → SetsMethod s new_method r → answer_number r.admission ≡ 0 → Chunked P k r.search text joined
   taken-up : {s : Search} {text joined : List ℕ} → Chunked P k s text joined
-      → {before after : List ℕ} {r : SaveResult} → Saves s before after r → saving_number r.saving ≡ 0
+      → {before after : List ℕ} {r : SaveResult} → Saves s before after r → answer_number r.saving ≡ 0
       → {r' : SearchResult} → Loads (written_image after r) r' → Chunked P k r'.search text joined
 
 -- it is a series, and its ledger has this text and these reports
@@ -363,7 +362,7 @@ as-series (taken-up before-it contract ok loaded) =
 
 -- It is handed to another method wherever 3, 4 and 5 of that method allow it
 pub handed-on : {P : List ℕ} {k : ℕ} {s : Search} {text joined : List ℕ} → Chunked P k s text joined
-    → {new_method : ℕ} {r : SearchResult} → SetsMethod s new_method r → admission_number r.admission ≡ given (method_tests P k new_method)
+    → {new_method : ℕ} {r : SearchResult} → SetsMethod s new_method r → answer_number r.admission ≡ given (method_tests P k new_method)
 handed-on chunked {new_method} contract =
     let all = as-series chunked in
     set-number all.run all.ledger all.current contract

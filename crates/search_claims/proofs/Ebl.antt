@@ -10,9 +10,8 @@ use Rattle.jumbled.specs.Refusals.{Test, given, method_tests, search_tests, feed
 use Rattle.jumbled.proofs.Admission.{given-later}
 use Rattle.jumbled.proofs.Never as Never
 use Rattle.image_form.specs.Decode.{bad_form, parts_of}
-use Rattle.answers.specs.declared.Answer.{Answer}
-use Rattle.answers.specs.Numbers.{admission_number}
-use Rattle.answers.specs.Answers.{answer_number, answer_found, saving_number}
+use Rattle.answers.specs.Numbers.{answer_number}
+use Rattle.answers.specs.Answers.{Answer, answer_found}
 use Rattle.search_whole.specs.Whole.{Whole, whole_number}
 use Rattle.search.specs.declared.Search.{Search}
 use Rattle.search.specs.declared.SearchResult.{SearchResult}
@@ -31,7 +30,7 @@ Not5 number = number ≡ 5 → ⊥
 not-5 : {number : ℕ} {ts : List Test} → number ≡ given ts → Never.Never 5 ts → Not5 number
 not-5 same never e = Never.never-given never (sym same ∙ e)
 
-pub open-never-5 : {P : List ℕ} {k : ℕ} {r : SearchResult} → Opened P k 6 r → Not5 (admission_number r.admission)
+pub open-never-5 : {P : List ℕ} {k : ℕ} {r : SearchResult} → Opened P k 6 r → Not5 (answer_number r.admission)
 unfolding open_number
 open-never-5 {P} {k} contract = not-5 contract.number (Never.pattern-not-5 P k)
 
@@ -52,20 +51,20 @@ unfolding feed_number feed_tests
 feed-never-5 {s} {chunk} {before} contract six =
     not-5 contract.number (Never.never-append (handed-not-5 s six) (Never.chunk-not-5 s.total (length chunk) (length before)))
 
-pub save-never-5 : {s : Search} {before after : List ℕ} {r : SaveResult} → Saves s before after r → s.method ≡ 6 → Not5 (saving_number r.saving)
+pub save-never-5 : {s : Search} {before after : List ℕ} {r : SaveResult} → Saves s before after r → s.method ≡ 6 → Not5 (answer_number r.saving)
 unfolding save_number save_tests
 save-never-5 {s} {before} contract six =
     not-5 contract.number (Never.never-append (handed-not-5 s six) (Never.buffer-not-5 (length before) (length (image_of s))))
 
 -- of a search that is handed to it: unless the search was not in order before
-pub set-never-5 : {s : Search} {r : SearchResult} → SetsMethod s 6 r → handed_number s ≡ 0 → Not5 (admission_number r.admission)
+pub set-never-5 : {s : Search} {r : SearchResult} → SetsMethod s 6 r → handed_number s ≡ 0 → Not5 (answer_number r.admission)
 unfolding set_method_number set_method_tests handed_number
 set-never-5 {s} contract in_order =
     not-5 (contract.number ∙ given-later (handed_tests s) (method_tests (pattern_of s) s.k 6) (handed-numbered s) in_order)
     (Never.method-not-5 (pattern_of s) s.k)
 
 -- of an image whose search has the method
-pub load-never-5 : {bytes : List ℕ} {r : SearchResult} → Loads bytes r → (parts_of bytes).method ≡ 6 → Not5 (admission_number r.admission)
+pub load-never-5 : {bytes : List ℕ} {r : SearchResult} → Loads bytes r → (parts_of bytes).method ≡ 6 → Not5 (answer_number r.admission)
 unfolding load_number load_tests parts_tests
 load-never-5 {bytes} contract six =
     let parts = parts_of bytes in
@@ -78,15 +77,15 @@ load-never-5 {bytes} contract six =
 
 -- A search of a record that came in pieces is handed to 6 exactly where k = 0; elsewhere 4 is given
 pub handed-to-ebl : {P : List ℕ} {k : ℕ} {s : Search} {text joined : List ℕ} → Chunked P k s text joined
-    → {r : SearchResult} → SetsMethod s 6 r → admission_number r.admission ≡ cond (ltb 0 k) 4 0
+    → {r : SearchResult} → SetsMethod s 6 r → answer_number r.admission ≡ cond (ltb 0 k) 4 0
 handed-to-ebl {P} {k} chunked contract = handed-on chunked contract ∙ Never.ebl-number P k
 
 -- Handed to 6, fed, handed on, and fed again: what a whole search of the joined record finds, by whichever method, are the positions reported
 -- before, then those of the feed by 6, then those of the feed by the method after it
 pub fed-by-ebl : {P : List ℕ} {k : ℕ} {s : Search} {text joined : List ℕ} → Chunked P k s text joined
-    → {to : SearchResult} → SetsMethod s 6 to → admission_number to.admission ≡ 0
+    → {to : SearchResult} → SetsMethod s 6 to → answer_number to.admission ≡ 0
     → {chunk before after : List ℕ} {fed : FeedResult} → Feeds to.search chunk before after fed → answer_number fed.answer ≡ 0
-    → {new_method : ℕ} {on : SearchResult} → SetsMethod fed.search new_method on → admission_number on.admission ≡ 0
+    → {new_method : ℕ} {on : SearchResult} → SetsMethod fed.search new_method on → answer_number on.admission ≡ 0
     → {chunk' before' after' : List ℕ} {fed' : FeedResult} → Feeds on.search chunk' before' after' fed' → answer_number fed'.answer ≡ 0
     → {method : ℕ} {list list' : List ℕ} {w : Answer} → Whole P k method (text ++ chunk ++ chunk') list list' w → answer_number w ≡ 0
     → take (answer_found w) list' ≡ joined ++ take (answer_found fed.answer) after ++ take (answer_found fed'.answer) after'

@@ -15,9 +15,7 @@ use Rattle.lent.specs.Placed.{placed, shifted}
 use Rattle.image_form.specs.Image.{parts_with, low_first, contents, image}
 use Rattle.image_form.specs.Decode.{from_low_first, kind_at, length_of, end_of, body_of, kinds_right, bad_form}
 use Rattle.answers.specs.declared.Refusal.TheVariants.{PatternLength, UnknownMethod, Malformed}
-use Rattle.answers.specs.declared.Admission.TheVariants as Admission
-use Rattle.answers.specs.declared.Answer.TheVariants as Answer
-use Rattle.answers.specs.declared.Saving.TheVariants as Saving
+use Rattle.std.proofs.Common.{Ok, Err}
 use Rattle.search.specs.declared.Search.{Search}
 use Rattle.search.specs.Searches.{stored, blank_search}
 use Rattle.search.specs.Calls.{handed_tests, handed_number, Opened, open_number, Feeds, feed_number, SetsMethod, set_method_number, Saves, save_number, parts_tests, Loads, load_number}
@@ -48,29 +46,29 @@ image_at n t =
     4 ∷ 1 ∷ 2 ∷ 0 ∷ 2 ∷ 2 ∷ 0 ∷ 3 ∷ 4 ∷ 0 ∷ 4 ∷ 1 ∷ 0 ∷ 97 ∷ 98 ∷ 0 ∷ 2 ∷ n ∷ 0 ∷ 0 ∷ 0 ∷ t ∷ []
 
 abbrev OpensWith : Search → Type 0
-OpensWith s = Opened ab 0 2 (record { admission = Admission.Accepted; search = s })
+OpensWith s = Opened ab 0 2 (record { admission = Ok tt; search = s })
 
 -- A list of two places that hold 7 is lent.
 abbrev FeedsTo : Search → (chunk after : List ℕ) (found inspections : ℕ) → Search → Type 0
 FeedsTo s chunk after found inspections next =
-    Feeds s chunk (7 ∷ 7 ∷ []) after (record { answer = Answer.Listed found inspections; search = next })
+    Feeds s chunk (7 ∷ 7 ∷ []) after (record { answer = Ok (record { found = found; inspections = inspections }); search = next })
 
 abbrev SavesAs : Search → List ℕ → Type 0
-SavesAs s bytes = Saves s (replicate 22 0) bytes (record { saving = Saving.Written 22; search = s })
+SavesAs s bytes = Saves s (replicate 22 0) bytes (record { saving = Ok 22; search = s })
 
 abbrev LoadsAs : List ℕ → Search → Type 0
-LoadsAs bytes s = Loads bytes (record { admission = Admission.Accepted; search = s })
+LoadsAs bytes s = Loads bytes (record { admission = Ok tt; search = s })
 
 record Calls : Type 0 where
   fresh-search : OpensWith (search_at 0 [])
   feed-a : FeedsTo (search_at 0 []) a (7 ∷ 7 ∷ []) 0 0 (search_at 1 a)
   save-a : SavesAs (search_at 1 a) (image_at 1 97)
   feed-ab : FeedsTo (search_at 1 a) ab (1 ∷ 7 ∷ []) 1 4 (search_at 3 b)
-  set-9 : SetsMethod (search_at 3 b) 9 (record { admission = Admission.Refused UnknownMethod; search = search_at 3 b })
+  set-9 : SetsMethod (search_at 3 b) 9 (record { admission = Err UnknownMethod; search = search_at 3 b })
   load-a : LoadsAs (image_at 1 97) (search_at 1 a)
   feed-b : FeedsTo (search_at 1 a) b (0 ∷ 7 ∷ []) 1 2 (search_at 2 b)
-  load-04 : Loads (4 ∷ []) (record { admission = Admission.Refused Malformed; search = blank_search })
-  feed-blank : Feeds blank_search a (7 ∷ 7 ∷ []) (7 ∷ 7 ∷ []) (record { answer = Answer.Refused PatternLength; search = blank_search })
+  load-04 : Loads (4 ∷ []) (record { admission = Err Malformed; search = blank_search })
+  feed-blank : Feeds blank_search a (7 ∷ 7 ∷ []) (7 ∷ 7 ∷ []) (record { answer = Err PatternLength; search = blank_search })
   feed-ab-first : FeedsTo (search_at 0 []) ab (0 ∷ 7 ∷ []) 1 2 (search_at 2 b)
   feed-bb : FeedsTo (search_at 0 []) bb (7 ∷ 7 ∷ []) 0 2 (search_at 2 b)
   save-b : SavesAs (search_at 2 b) (image_at 2 98)

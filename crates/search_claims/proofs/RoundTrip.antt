@@ -13,12 +13,11 @@ use Rattle.image_form.specs.Decode.{kind_at, bad_form, parts_of}
 use Rattle.image_form.proofs.Contents.{kind-refused}
 use Rattle.image_form.proofs.Images.{image_injective}
 use Rattle.image_form.proofs.Again.{image-again}
-use Rattle.answers.specs.Numbers.{admission_number}
+use Rattle.answers.specs.Numbers.{answer_number}
 use Rattle.search.specs.declared.Search.{Search}
 use Rattle.search.specs.declared.SearchResult.{SearchResult}
 use Rattle.search.specs.declared.SaveResult.{SaveResult}
 use Rattle.search.specs.Searches.{pattern_of, tail_of, parts_of_search, stored, blank_search}
-use Rattle.answers.specs.Answers.{saving_number}
 use Rattle.search.specs.Calls.{Saves, save_number, image_of, Loads, load_number}
 use Rattle.search.proofs.Handed.{SoundSearch, sound}
 use Rattle.search_series.specs.Series.{written_image}
@@ -56,7 +55,7 @@ module _ (s : Search) (fields : FieldSizes s) (buffer : List ℕ) (accepted : sa
     taken = load-taken (parts_of_search s) right.admits tail-measured fields.total-fits
 
     -- Load takes its image,
-    pub loaded-number : admission_number r.admission ≡ 0
+    pub loaded-number : answer_number r.admission ≡ 0
     loaded-number = contract.number ∙ taken
 
     -- hands it back with every stored byte past the lengths 0,
@@ -70,8 +69,8 @@ module _ (s : Search) (fields : FieldSizes s) (buffer : List ℕ) (accepted : sa
 -- What a save that was accepted wrote, load takes, and gives a search with the same five parts: any search that a caller can hand in, also
 -- one that was filled in by hand.
 pub save-load : {s : Search} {before after : List ℕ} {r : SaveResult} {r' : SearchResult} → FieldSizes s → Saves s before after r
-    → saving_number r.saving ≡ 0 → Loads (written_image after r) r'
-    → (admission_number r'.admission ≡ 0) × (parts_of_search r'.search ≡ parts_of_search s)
+    → answer_number r.saving ≡ 0 → Loads (written_image after r) r'
+    → (answer_number r'.admission ≡ 0) × (parts_of_search r'.search ≡ parts_of_search s)
 save-load {s} {before} {r' = r'} fields contract ok loaded =
     let accepted : save_number s before ≡ 0 = sym contract.number ∙ ok in
     let image-loaded = subst (λ (bytes : List ℕ). Loads bytes r') (save-written contract ok) loaded in
@@ -87,7 +86,7 @@ pub record Alike (s s' : Search) : Type 0 where
 
 -- Two accepted saves write equal images exactly when the searches are alike, whatever their arrays hold past the lengths.
 pub equal-images : {s s' : Search} {before after before' after' : List ℕ} {r r' : SaveResult} → FieldSizes s → FieldSizes s'
-    → Saves s before after r → Saves s' before' after' r' → saving_number r.saving ≡ 0 → saving_number r'.saving ≡ 0
+    → Saves s before after r → Saves s' before' after' r' → answer_number r.saving ≡ 0 → answer_number r'.saving ≡ 0
     → (written_image after r ≡ written_image after' r' → Alike s s') × (Alike s s' → written_image after r ≡ written_image after' r')
 equal-images {s} {s'} {before} {before' = before'} fields fields' contract contract' ok ok' =
     let sized-s = saved-sized s fields before (sym contract.number ∙ ok) in
@@ -115,8 +114,8 @@ load-formed bytes h = by (bad_form bytes) refl
     by false e = e
 
 -- Load takes no other bytes than an image: what it took is what a save of the search that it gave writes.
-pub load-save : {bytes before after : List ℕ} {r : SearchResult} {r' : SaveResult} → Bytes bytes → Loads bytes r → admission_number r.admission ≡ 0
-    → Saves r.search before after r' → saving_number r'.saving ≡ 0 → written_image after r' ≡ bytes
+pub load-save : {bytes before after : List ℕ} {r : SearchResult} {r' : SaveResult} → Bytes bytes → Loads bytes r → answer_number r.admission ≡ 0
+    → Saves r.search before after r' → answer_number r'.saving ≡ 0 → written_image after r' ≡ bytes
 load-save {bytes} good loaded ok contract ok' =
     save-written contract ok'
     ∙ ap image_of (load-accepted loaded ok)
@@ -125,7 +124,7 @@ load-save {bytes} good loaded ok contract ok' =
 
 -- Load gives 9 for bytes with an entry of another kind than its place, so for every other order of the four.
 pub other-order-refused : {bytes : List ℕ} {r : SearchResult} → Loads bytes r → (i : ℕ) → 1 ≤ i → i ≤ 4 → (kind_at i bytes ≡ i → ⊥)
-    → (admission_number r.admission ≡ 9) × (r.search ≡ blank_search)
+    → (answer_number r.admission ≡ 9) × (r.search ≡ blank_search)
 unfolding load_number load_tests form_tests given
 other-order-refused {bytes} {r} contract i least most other =
     let bad = kind-refused bytes i least most other in

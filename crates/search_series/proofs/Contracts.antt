@@ -10,8 +10,8 @@ use Rattle.lent.specs.Placed.{placed, shifted}
 use Rattle.lent.proofs.Placing.{take-placed-first}
 use Rattle.image_form.specs.Image.{parts_with}
 use Rattle.image_form.specs.Decode.{parts_of}
-use Rattle.answers.specs.Numbers.{admission_number}
-use Rattle.answers.specs.Answers.{answer_number, answer_found, answer_inspections, saving_number, saving_length}
+use Rattle.answers.specs.Numbers.{answer_number}
+use Rattle.answers.specs.Answers.{answer_found, answer_inspections, saving_length}
 use Rattle.answers.proofs.Refused.{IsRefused, is_zero, not-zero}
 use Rattle.search_whole.proofs.Contract.{NothingListed}
 use Rattle.search.specs.declared.Search.{Search}
@@ -58,10 +58,10 @@ module _ {s : Search} {chunk before after : List ℕ} {r : FeedResult} (contract
 -- ---- set method: stored bytes past the lengths stay, accepted or refused
 
 module _ {s : Search} {new_method : ℕ} {r : SearchResult} (contract : SetsMethod s new_method r) where
-  pub set-accepted : admission_number r.admission ≡ 0 → r.search ≡ search_with_method s new_method
+  pub set-accepted : answer_number r.admission ≡ 0 → r.search ≡ search_with_method s new_method
   set-accepted ok = rw (is_zero contract.number ok) at contract.search
 
-  pub set-refused : IsRefused (admission_number r.admission) → r.search ≡ s
+  pub set-refused : IsRefused (answer_number r.admission) → r.search ≡ s
   set-refused refusal = rw (not-zero contract.number refusal) at contract.search
 
 -- ---- save: the search is handed back in every byte, accepted or refused (`search` of its contract)
@@ -77,7 +77,7 @@ pub record NothingSaved (before after : List ℕ) (r : SaveResult) : Type 0 wher
   pub len : saving_length r.saving ≡ 0
 
 module _ {s : Search} {before after : List ℕ} {r : SaveResult} (contract : Saves s before after r) where
-  pub save-accepted : saving_number r.saving ≡ 0 → SaveAccepted s before after r
+  pub save-accepted : answer_number r.saving ≡ 0 → SaveAccepted s before after r
   save-accepted ok =
       record {
         buffer = rw (is_zero contract.number ok) at contract.buffer;
@@ -85,12 +85,12 @@ module _ {s : Search} {before after : List ℕ} {r : SaveResult} (contract : Sav
       }
 
   -- what was written is the image of the search
-  pub save-written : saving_number r.saving ≡ 0 → written_image after r ≡ image_of s
+  pub save-written : answer_number r.saving ≡ 0 → written_image after r ≡ image_of s
   save-written ok =
       let accepted : SaveAccepted s before after r = save-accepted ok in
       ap₂ (λ (n : ℕ) (l : List ℕ). take n l) accepted.len accepted.buffer ∙ take-placed-first before (image_of s)
 
-  pub save-refused : IsRefused (saving_number r.saving) → NothingSaved before after r
+  pub save-refused : IsRefused (answer_number r.saving) → NothingSaved before after r
   save-refused refusal =
       record {
         buffer = rw (not-zero contract.number refusal) at contract.buffer;
@@ -100,15 +100,15 @@ module _ {s : Search} {before after : List ℕ} {r : SaveResult} (contract : Sav
 -- ---- open and load
 
 module _ {P : List ℕ} {k method : ℕ} {r : SearchResult} (contract : Opened P k method r) where
-  pub open-accepted : admission_number r.admission ≡ 0 → r.search ≡ stored (parts_with P k method 0 [])
+  pub open-accepted : answer_number r.admission ≡ 0 → r.search ≡ stored (parts_with P k method 0 [])
   open-accepted ok = rw (is_zero contract.number ok) at contract.search
 
-  pub open-refused : IsRefused (admission_number r.admission) → r.search ≡ blank_search
+  pub open-refused : IsRefused (answer_number r.admission) → r.search ≡ blank_search
   open-refused refusal = rw (not-zero contract.number refusal) at contract.search
 
 module _ {bytes : List ℕ} {r : SearchResult} (contract : Loads bytes r) where
-  pub load-accepted : admission_number r.admission ≡ 0 → r.search ≡ stored (parts_of bytes)
+  pub load-accepted : answer_number r.admission ≡ 0 → r.search ≡ stored (parts_of bytes)
   load-accepted ok = rw (is_zero contract.number ok) at contract.search
 
-  pub load-refused : IsRefused (admission_number r.admission) → r.search ≡ blank_search
+  pub load-refused : IsRefused (answer_number r.admission) → r.search ≡ blank_search
   load-refused refusal = rw (not-zero contract.number refusal) at contract.search

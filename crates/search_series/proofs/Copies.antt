@@ -3,7 +3,7 @@ use mathlib.Core.Path.{◌≡◌, refl, sym, ◌∙◌}
 use mathlib.Core.List.{List, [], ◌∷◌}
 use Prim.Native.Nat.{ℕ}
 use Rattle.image_form.specs.Image.{image}
-use Rattle.answers.specs.Answers.{saving_number}
+use Rattle.answers.specs.Numbers.{answer_number}
 use Rattle.search.specs.declared.Search.{Search}
 use Rattle.search.specs.declared.SaveResult.{SaveResult}
 use Rattle.search.specs.Calls.{Saves}
@@ -18,7 +18,7 @@ pub data CopiesInvariant : List Copy → Type 0 where
 
 -- an accepted save adds one, of the ledger that the search represents
 pub copy-kept : {L : Ledger} {s : Search} {before after : List ℕ} {r : SaveResult} {kept : List Copy} → Represents L s → Saves s before after r
-    → saving_number r.saving ≡ 0 → CopiesInvariant kept → CopiesInvariant (record { image = written_image after r; ledger = L } ∷ kept)
+    → answer_number r.saving ≡ 0 → CopiesInvariant kept → CopiesInvariant (record { image = written_image after r; ledger = L } ∷ kept)
 copy-kept now contract e copies = more now.sound (save-image contract now e) copies
 
 -- the ledger of the copy that a load means

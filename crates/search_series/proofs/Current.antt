@@ -3,8 +3,7 @@ use mathlib.Core.Path.{◌≡◌, subst}
 use mathlib.Core.List.{List}
 use Prim.Native.Nat.{ℕ}
 use native.Mathlib.Omega.{arith}
-use Rattle.answers.specs.Numbers.{admission_number}
-use Rattle.answers.specs.Answers.{answer_number, saving_number}
+use Rattle.answers.specs.Numbers.{answer_number}
 use Rattle.search.specs.declared.Search.{Search}
 use Rattle.search.specs.declared.SearchResult.{SearchResult}
 use Rattle.search.specs.declared.FeedResult.{FeedResult}
@@ -42,13 +41,13 @@ pub feed-current : {c : Current} {s : Search} → RepresentsCurrent c s → {chu
 feed-current (is-blank e) contract q = absurd (let one = feed-while-blank contract e in omega arith)
 feed-current (is_held now) contract q = is_held (feed-represents contract now q)
 
-pub set-current : {c : Current} {s : Search} → RepresentsCurrent c s → {new_method : ℕ} {r : SearchResult} → SetsMethod s new_method r → admission_number r.admission ≡ 0
+pub set-current : {c : Current} {s : Search} → RepresentsCurrent c s → {new_method : ℕ} {r : SearchResult} → SetsMethod s new_method r → answer_number r.admission ≡ 0
     → RepresentsCurrent (changed (ledger_with_method new_method) c) r.search
 set-current (is-blank e) contract q = absurd (let one = set-while-blank contract e in omega arith)
 set-current (is_held now) contract q = is_held (set-represents contract now q)
 
 -- the copies after an accepted save
-pub save-copies : {c : Current} {s : Search} → RepresentsCurrent c s → {before after : List ℕ} {r : SaveResult} → Saves s before after r → saving_number r.saving ≡ 0
+pub save-copies : {c : Current} {s : Search} → RepresentsCurrent c s → {before after : List ℕ} {r : SaveResult} → Saves s before after r → answer_number r.saving ≡ 0
     → {kept : List Copy} → CopiesInvariant kept → CopiesInvariant (keep (written_image after r) c kept)
 save-copies (is-blank e) contract q copies = copies
 save-copies (is_held now) contract q copies = copy-kept now contract q copies

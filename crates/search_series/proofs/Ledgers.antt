@@ -13,12 +13,11 @@ use Rattle.lent.specs.Placed.{placed, shifted}
 use Rattle.lent.proofs.Placing.{length-shifted}
 use Rattle.image_form.specs.Image.{parts_with, image}
 use Rattle.image_form.specs.Decode.{parts_of}
-use Rattle.answers.specs.Numbers.{admission_number}
+use Rattle.answers.specs.Numbers.{answer_number}
 use Rattle.search.specs.declared.Search.{Search}
 use Rattle.search.specs.declared.SearchResult.{SearchResult}
 use Rattle.search.specs.declared.FeedResult.{FeedResult}
 use Rattle.search.specs.declared.SaveResult.{SaveResult}
-use Rattle.answers.specs.Answers.{answer_number, saving_number}
 use Rattle.search_state.specs.Stored.{last_of}
 use Rattle.search.specs.Searches.{pattern_of, stored, blank_search}
 use Rattle.search.specs.Calls.{handed_number, parts_tests, Opened, open_number, Feeds, feed_number, searched_text, fed_parts, SetsMethod, set_method_number, Saves, save_number, image_of, Loads, load_number}
@@ -81,7 +80,7 @@ module _ {P : List ℕ} {k method : ℕ} {r : SearchResult} (contract : Opened P
   unfolding open_number
   opened-admitted ok = ok
 
-  pub open-represents : admission_number r.admission ≡ 0 → Represents (start_with P k method) r.search
+  pub open-represents : answer_number r.admission ≡ 0 → Represents (start_with P k method) r.search
   open-represents e =
       let ok : open_number P k method ≡ 0 = sym contract.number ∙ e in
       record {
@@ -173,7 +172,7 @@ module _ {s : Search} {chunk before after : List ℕ} {r : FeedResult} (contract
 -- ---- set method
 
 module _ {s : Search} {new_method : ℕ} {r : SearchResult} (contract : SetsMethod s new_method r) where
-  pub set-represents : {L : Ledger} → Represents L s → admission_number r.admission ≡ 0 → Represents (ledger_with_method new_method L) r.search
+  pub set-represents : {L : Ledger} → Represents L s → answer_number r.admission ≡ 0 → Represents (ledger_with_method new_method L) r.search
   set-represents {L} now e =
       let contract-held = subst (λ (held : Search). SetsMethod held new_method r) now.held contract in
       let ok : set_method_number (ledger_search L) new_method ≡ 0 = sym contract-held.number ∙ e in
@@ -189,17 +188,17 @@ module _ {s : Search} {new_method : ℕ} {r : SearchResult} (contract : SetsMeth
         held = set-accepted contract-held e;
       }
 
-  pub set-while-blank : s ≡ blank_search → admission_number r.admission ≡ 1
+  pub set-while-blank : s ≡ blank_search → answer_number r.admission ≡ 1
   set-while-blank e = contract.number ∙ ap (λ (held : Search). set_method_number held new_method) e ∙ set-blank new_method
 
 -- ---- save
 
 module _ {s : Search} {before after : List ℕ} {r : SaveResult} (contract : Saves s before after r) where
   -- what was written is the image of the ledger
-  pub save-image : {L : Ledger} → Represents L s → saving_number r.saving ≡ 0 → written_image after r ≡ image (ledger_parts L)
+  pub save-image : {L : Ledger} → Represents L s → answer_number r.saving ≡ 0 → written_image after r ≡ image (ledger_parts L)
   save-image {L} now e = save-written contract e ∙ ap image_of now.held ∙ ap (image) (parts-stored (ledger_parts L))
 
-  pub save-while-blank : s ≡ blank_search → saving_number r.saving ≡ 1
+  pub save-while-blank : s ≡ blank_search → answer_number r.saving ≡ 1
   save-while-blank e = contract.number ∙ ap (λ (held : Search). save_number held before) e ∙ save-blank before
 
 -- ---- load
@@ -210,7 +209,7 @@ module _ {bytes : List ℕ} {r : SearchResult} (contract : Loads bytes r) where
     load_ok : load_number bytes ≡ 0
     load_ok = ap load_number (sym e) ∙ load-taken (ledger_parts L) sound.taken (tail-length L) sound.fits
 
-    pub load-takes : admission_number r.admission ≡ 0
+    pub load-takes : answer_number r.admission ≡ 0
     load-takes = contract.number ∙ load_ok
 
     pub load-represents : Represents L r.search

@@ -4,13 +4,12 @@ use mathlib.Core.List.{List}
 use mathlib.Core.Logic.{◌⊎◌, ⊎_elim}
 use Prim.Native.Nat.{ℕ, zero, suc}
 use native.Mathlib.Omega.{arith}
-use Rattle.answers.specs.Numbers.{admission_number}
+use Rattle.answers.specs.Numbers.{answer_number}
+use Rattle.answers.specs.Answers.{Answer}
 use Rattle.search.specs.declared.Search.{Search}
-use Rattle.answers.specs.declared.Answer.{Answer}
 use Rattle.search.specs.declared.SearchResult.{SearchResult}
 use Rattle.search.specs.declared.FeedResult.{FeedResult}
 use Rattle.search.specs.declared.SaveResult.{SaveResult}
-use Rattle.answers.specs.Answers.{answer_number, saving_number}
 use Rattle.search_whole.specs.Whole.{Whole}
 use Rattle.search.specs.Calls.{Opened, Feeds, SetsMethod, Saves, Loads}
 use Rattle.search_series.specs.History.{History, verdict, Event, opened, fed, method_set, saved, loaded, searched, brought_back, after_event, history}
@@ -32,7 +31,7 @@ refused : {number n : ℕ} → number ≡ suc n → IsRefused number
 refused e zero-said = omega arith
 
 after_open : {h : History} {s : Search} → Invariant h s → {P : List ℕ} {k method : ℕ} {r : SearchResult} → Opened P k method r
-    → (n : ℕ) → admission_number r.admission ≡ n → Invariant (after_event h (opened P k method (verdict n))) r.search
+    → (n : ℕ) → answer_number r.admission ≡ n → Invariant (after_event h (opened P k method (verdict n))) r.search
 unfolding after_event
 after_open inv contract zero e = record { current = is_held (open-represents contract e); copies = inv.copies }
 after_open inv contract (suc n) e = record { current = is-blank (open-refused contract (refused e)); copies = inv.copies }
@@ -44,21 +43,21 @@ after-feed inv contract zero e = record { current = feed-current inv.current con
 after-feed inv contract (suc n) e = record { current = unchanged inv.current (feed-keeps-search contract (refused e)); copies = inv.copies }
 
 after-set : {h : History} {s : Search} → Invariant h s → {method : ℕ} {r : SearchResult} → SetsMethod s method r
-    → (n : ℕ) → admission_number r.admission ≡ n → Invariant (after_event h (method_set method (verdict n))) r.search
+    → (n : ℕ) → answer_number r.admission ≡ n → Invariant (after_event h (method_set method (verdict n))) r.search
 unfolding after_event
 after-set inv contract zero e = record { current = set-current inv.current contract e; copies = inv.copies }
 after-set inv contract (suc n) e = record { current = unchanged inv.current (set-refused contract (refused e)); copies = inv.copies }
 
 after-save : {h : History} {s : Search} → Invariant h s → {before rest : List ℕ} {r : SaveResult} → Saves s before rest r
-    → (n : ℕ) → saving_number r.saving ≡ n → Invariant (after_event h (saved (written_image rest r) (verdict n))) r.search
+    → (n : ℕ) → answer_number r.saving ≡ n → Invariant (after_event h (saved (written_image rest r) (verdict n))) r.search
 unfolding after_event
 after-save inv contract zero e =
     record { current = unchanged inv.current contract.search; copies = save-copies inv.current contract e inv.copies }
 after-save inv contract (suc n) e = record { current = unchanged inv.current contract.search; copies = inv.copies }
 
 after-load : {h : History} {s : Search} → Invariant h s → {bytes : List ℕ} {which : ℕ} {r : SearchResult} → Loads bytes r
-    → KeptAs bytes h.kept which ⊎ (admission_number r.admission ≡ 0 → ⊥)
-    → (n : ℕ) → admission_number r.admission ≡ n → Invariant (after_event h (loaded bytes which (verdict n))) r.search
+    → KeptAs bytes h.kept which ⊎ (answer_number r.admission ≡ 0 → ⊥)
+    → (n : ℕ) → answer_number r.admission ≡ n → Invariant (after_event h (loaded bytes which (verdict n))) r.search
 unfolding after_event
 after-load {h} inv {bytes} {which} {r} contract got zero e =
     record { current = ⊎_elim brought (λ no. absurd (no e)) got; copies = inv.copies }

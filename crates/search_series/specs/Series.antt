@@ -4,13 +4,12 @@ use Rattle.jumbled.specs.Match.{positions}
 use Rattle.jumbled.specs.Steps.{steps}
 use Rattle.jumbled.specs.Refusals.{tail_length}
 use Rattle.lent.specs.Placed.{placed}
-use Rattle.answers.specs.Numbers.{admission_number}
+use Rattle.answers.specs.Numbers.{answer_number}
+use Rattle.answers.specs.Answers.{Answer, answer_found, answer_inspections, saving_length}
 use Rattle.search.specs.declared.Search.{Search}
-use Rattle.answers.specs.declared.Answer.{Answer}
 use Rattle.search.specs.declared.SearchResult.{SearchResult}
 use Rattle.search.specs.declared.FeedResult.{FeedResult}
 use Rattle.search.specs.declared.SaveResult.{SaveResult}
-use Rattle.answers.specs.Answers.{answer_number, answer_found, answer_inspections, saving_number, saving_length}
 use Rattle.search_whole.specs.Whole.{Whole}
 use Rattle.search_state.specs.Stored.{last_of}
 use Rattle.image_form.specs.Image.{Parts, parts_with}
@@ -35,24 +34,24 @@ written_image after r = take (saving_length r.saving) after
 -- the number that it gives.
 pub data Run (P : List ℕ) (k method : ℕ) : Search → List Event → Type 0 where
   -- It begins with an open that was accepted.
-  fresh : {r : SearchResult} → Opened P k method r → admission_number r.admission ≡ 0 → Run P k method r.search []
+  fresh : {r : SearchResult} → Opened P k method r → answer_number r.admission ≡ 0 → Run P k method r.search []
   opens : {s : Search} {events : List Event} → Run P k method s events
       → {P' : List ℕ} {k' method' : ℕ} {r : SearchResult} → Opened P' k' method' r
-      → Run P k method r.search (opened P' k' method' (verdict (admission_number r.admission)) ∷ events)
+      → Run P k method r.search (opened P' k' method' (verdict (answer_number r.admission)) ∷ events)
   feeds : {s : Search} {events : List Event} → Run P k method s events
       → {chunk before after : List ℕ} {r : FeedResult} → Feeds s chunk before after r
       → Run P k method r.search (fed chunk (verdict (answer_number r.answer)) ∷ events)
   sets : {s : Search} {events : List Event} → Run P k method s events
       → {method' : ℕ} {r : SearchResult} → SetsMethod s method' r
-      → Run P k method r.search (method_set method' (verdict (admission_number r.admission)) ∷ events)
+      → Run P k method r.search (method_set method' (verdict (answer_number r.admission)) ∷ events)
   saves : {s : Search} {events : List Event} → Run P k method s events
       → {before after : List ℕ} {r : SaveResult} → Saves s before after r
-      → Run P k method r.search (saved (written_image after r) (verdict (saving_number r.saving)) ∷ events)
+      → Run P k method r.search (saved (written_image after r) (verdict (answer_number r.saving)) ∷ events)
   -- What it loads was written by a save of this series, or the load is refused.
   loads : {s : Search} {events : List Event} → Run P k method s events
       → {bytes : List ℕ} {which : ℕ} {r : SearchResult} → Loads bytes r
-      → KeptAs bytes (history P k method events).kept which ⊎ (admission_number r.admission ≡ 0 → ⊥)
-      → Run P k method r.search (loaded bytes which (verdict (admission_number r.admission)) ∷ events)
+      → KeptAs bytes (history P k method events).kept which ⊎ (answer_number r.admission ≡ 0 → ⊥)
+      → Run P k method r.search (loaded bytes which (verdict (answer_number r.admission)) ∷ events)
   -- The search of the series stays.
   wholes : {s : Search} {events : List Event} → Run P k method s events
       → {P' : List ℕ} {k' method' : ℕ} {text before after : List ℕ} {r : Answer} → Whole P' k' method' text before after r
@@ -124,9 +123,9 @@ Right {P} {k} {method} {s} {now} (feeds {events = past} run {chunk} {before} {af
     × OneWhileBlank (history P k method past) (answer_number r.answer)
     × AfterCall (history P k method now).current s
 Right {P} {k} {method} {s} {now} (sets {events = past} run {r = r} contract) =
-    Right run × OneWhileBlank (history P k method past) (admission_number r.admission) × AfterCall (history P k method now).current s
+    Right run × OneWhileBlank (history P k method past) (answer_number r.admission) × AfterCall (history P k method now).current s
 Right {P} {k} {method} {s} {now} (saves {events = past} run {r = r} contract) =
-    Right run × OneWhileBlank (history P k method past) (saving_number r.saving) × AfterCall (history P k method now).current s
+    Right run × OneWhileBlank (history P k method past) (answer_number r.saving) × AfterCall (history P k method now).current s
 Right {P} {k} {method} {s} {now} (loads {events = past} run {bytes} {which} {r} contract got) =
-    Right run × TakesKept (history P k method past) bytes which (admission_number r.admission) × AfterCall (history P k method now).current s
+    Right run × TakesKept (history P k method past) bytes which (answer_number r.admission) × AfterCall (history P k method now).current s
 Right {P} {k} {method} {s} {now} (wholes run contract) = Right run × AfterCall (history P k method now).current s
