@@ -1,7 +1,8 @@
 -- Laws that tie the parts together: what is refused, and what is printed.
 use mathlib.Core.Path.{◌≡◌, refl, sym, ap, ◌∙◌}
 use mathlib.Core.List.{List}
-use Prim.Native.Nat.{ℕ, suc, ◌+◌, ◌<◌}
+use Prim.Native.Nat.{ℕ, suc, ◌-◌, ◌<◌}
+use native.Mathlib.Omega.{arith}
 use native.Mathlib.Nat.{suc-ne-zero}
 use lib.ListN.{length}
 use borrow.Author.Tests.{eq-eqb, ne_eqb}
@@ -11,7 +12,10 @@ use Rattle.jumbled.specs.Refusals.{given, pattern_tests, request_tests, program_
 use Rattle.jumbled.proofs.Admission.{given-refused, given-later, given-small, request-numbered, program-numbered}
 use Rattle.jumbled.proofs.Never.{never-given, program-not-5}
 use Rattle.program_request.specs.Request.{request_method, request_tolerance, request_pattern, request_text, bad_line, request_number}
-use Rattle.program_request.specs.Parsing.{between}
+use Rattle.program_request.specs.declared.Request.{Request}
+use Rattle.answers.specs.Numbers.{number_of}
+use Rattle.answers.specs.declared.Refusal.{Refusal}
+use Rattle.answers.proofs.Refused.{number-positive}
 use Rattle.program_request.proofs.Answered.{Requested}
 use Rattle.program_lines.specs.Lines.{output_text, refusal_text}
 use Rattle.program_report.specs.Output.{request_refusal, answer_text, output}
@@ -42,7 +46,7 @@ module _ (input : List ℕ) where
   output-refused h = rw (ne_eqb (request_refusal input) 0 h) refl
 
   -- 6 or 11
-  pub output-early : {n : ℕ} → request_number input ≡ suc n → output input ≡ refusal_text (suc n)
+  output-early : {n : ℕ} → request_number input ≡ suc n → output input ≡ refusal_text (suc n)
   output-early {n} e =
       let number : request_refusal input ≡ suc n = refusal-early e in
       output-refused (λ (q : request_refusal input ≡ 0). suc-ne-zero n (sym number ∙ q)) ∙ ap refusal_text number
@@ -61,10 +65,15 @@ module _ (input : List ℕ) where
   unfolding output answer_text
   output-answer e = rw (refusal-good e) refl
 
-  -- so of a request that `parse` reads
-  pub request-output : {method k from line_end end : ℕ} → Requested input method k from line_end end
-      → output input ≡ answer_text (between input from line_end) k method (between input (line_end + 1) end)
+  -- so of a request that `parse` reads, and of an input that it refuses
+  pub request-output : {r : Request} → Requested input r → output input ≡ answer_text r.pattern.now r.k r.method r.text.now
   request-output q = output-answer q.accepted ∙ rw (q.pattern-is, q.text-is, q.k-is, q.method-is) refl
+
+  pub output-refusal : (refusal : Refusal) → request_number input ≡ number_of refusal → output input ≡ refusal_text (number_of refusal)
+  output-refusal refusal e =
+      let positive = number-positive refusal in
+      let whole : number_of refusal ≡ suc (number_of refusal - 1) = omega arith in
+      output-early (e ∙ whole) ∙ ap refusal_text (sym whole)
 
 -- every refusal's number has one or two digits
 pub refusal-small : (input : List ℕ) → request_refusal input < 100

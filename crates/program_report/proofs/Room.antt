@@ -15,14 +15,15 @@ use Rattle.jumbled.proofs.Sums.{below_or_not}
 use Rattle.jumbled.proofs.Positions.{positions-few, positions-below}
 use Rattle.lent.specs.Written.{Written}
 use Rattle.lent.proofs.Writing.{written-length}
+use Rattle.answers.specs.declared.Refusal.TheVariants.{TextTooLong}
 use Rattle.program_request.specs.Request.{request_method, request_tolerance, request_pattern, request_text, bad_line}
 use Rattle.program_request.proofs.Requests.{too_long}
-use Rattle.program_request.proofs.Answered.{parsed-long, text-shorter}
+use Rattle.program_request.proofs.Answered.{parsed-refused, text-shorter}
 use Rattle.program_lines.specs.Lines.{output_text, refusal_text}
 use Rattle.program_lines.proofs.Lines.{output-most, refusal-most}
 use Rattle.program_report.specs.Output.{request_refusal, output}
 use Rattle.program_report.specs.Reads.{input_room, ReadInto, FirstBytes, ReportsRead}
-use Rattle.program_report.proofs.Answers.{output-early, output-found, output-refused, refusal-small}
+use Rattle.program_report.proofs.Answers.{output-refusal, output-found, output-refused, refusal-small}
 use Rattle.program_report.proofs.Inspections.{steps-few}
 
 -- ---- what is not refused
@@ -86,7 +87,7 @@ output-inside input w long = omega (arith, output-room input, w.place, written-l
 -- ---- one byte more than the longest input is all that has to be read
 
 long-output : (input : List ℕ) → 16384 < length input → output input ≡ refusal_text 6
-long-output input l = output-early input (parsed-long input (too_long input l))
+long-output input l = output-refusal input TextTooLong (parsed-refused input TextTooLong (too_long input l))
 
 pub output-cut : (input : List ℕ) → output (take input_room input) ≡ output input
 output-cut input =

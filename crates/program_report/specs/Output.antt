@@ -3,6 +3,8 @@ use Rattle.std.specs.Prelude.{ℕ, cond, List, eqb, length}
 use Rattle.jumbled.specs.Match.{positions}
 use Rattle.jumbled.specs.Steps.{steps}
 use Rattle.jumbled.specs.Refusals.{given, pattern_tests, program_tests}
+use Rattle.lent.specs.Written.{Written}
+use Rattle.program_request.specs.declared.Request.{Request}
 use Rattle.program_request.specs.Request.{request_method, request_tolerance, request_pattern, request_text, bad_line}
 use Rattle.program_lines.specs.Lines.{output_text, refusal_text}
 
@@ -20,6 +22,11 @@ answer_text P k method T =
     cond (eqb (given (pattern_tests P k method)) 0)
     (output_text P k method (positions P k T) (steps P k method T).inspections)
     (refusal_text (given (pattern_tests P k method)))
+
+-- That was put at the buffer's start
+abbrev pub AnswerWritten : Request → (before after : List ℕ) → ℕ → Type 0
+AnswerWritten request before after len =
+    Written before 0 (answer_text request.pattern.now request.k request.method request.text.now) after len
 
 -- ---- what the program prints for an input
 

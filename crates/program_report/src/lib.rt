@@ -4,11 +4,12 @@
 
 ghost use Rattle.std.specs.Prelude.{◌≤◌, length};
 ghost use Rattle.lent.specs.Written.{Written};
-ghost use Rattle.program_report.specs.Output.{answer_text, output};
+ghost use Rattle.program_report.specs.Output.{AnswerWritten, output};
 ghost use Rattle.program_report.specs.Reads.{ReadInto, ReportsRead};
 
-use answers::Answer;
-use program_request::{LONGEST_INPUT, Parsed};
+use answers::number_of;
+use program_lines::{write_found, write_refusal};
+use program_request::{LONGEST_INPUT, Request};
 
 // How many bytes of its input the program reads: one more than the longest that it takes. These decide what it prints (`output-cut`).
 pub const INPUT_ROOM: usize = LONGEST_INPUT + 1;
@@ -17,26 +18,28 @@ pub const INPUT_ROOM: usize = LONGEST_INPUT + 1;
 pub const OUTPUT_ROOM: usize = 98560;
 
 // Answers a request. The list has a place for each byte of the longest input, so a whole search never lacks places.
-fn answer_request(pattern: &[u8], k: u8, method: u8, text: &[u8], buffer: &mut [u8]) -> usize
-    requires { (length text.now ≤ 16384) × (98416 ≤ length buffer.old) }
-    ensures { Written buffer.old 0 (answer_text pattern.now k method text.now) buffer.new result }
+fn answer_request(request: Request, buffer: &mut [u8]) -> usize
+    requires { (length request.text.now ≤ 16384) × (98416 ≤ length buffer.old) }
+    ensures { AnswerWritten request.entry buffer.old buffer.new result }
 {
+    let Request {
+        method,
+        k,
+        pattern,
+        text,
+    } = request;
     let mut list = [0u32; LONGEST_INPUT];
     match search_whole::whole(pattern, k, method, text, &mut list) {
-        Answer::Refused(refusal) => program_lines::write_refusal(
-            answers::number_of(refusal),
-            buffer,
-            0,
-        ),
-        Answer::Listed { found, inspections } => program_lines::write_found(
+        Ok(counts) => write_found(
             pattern,
             k,
             method,
             &list,
-            found,
-            inspections,
+            counts.found,
+            counts.inspections,
             buffer,
         ),
+        Err(refusal) => write_refusal(number_of(refusal), buffer, 0),
     }
 }
 
@@ -45,21 +48,8 @@ pub fn report(input: &[u8], buffer: &mut [u8; OUTPUT_ROOM]) -> usize
     ensures { Written buffer.old 0 (output input.now) buffer.new result }
 {
     match program_request::parse(input) {
-        Parsed::TooLong => program_lines::write_refusal(6, buffer, 0),
-        Parsed::BadLine => program_lines::write_refusal(11, buffer, 0),
-        Parsed::Request {
-            method,
-            k,
-            from,
-            line_end,
-            end,
-        } => answer_request(
-            &input[from..line_end],
-            k,
-            method,
-            &input[line_end + 1..end],
-            buffer,
-        ),
+        Ok(request) => answer_request(request, buffer),
+        Err(early) => write_refusal(number_of(early), buffer, 0),
     }
 }
 
