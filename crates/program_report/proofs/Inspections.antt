@@ -1,6 +1,6 @@
 -- How many inspections a request can take: 64 for the first window of a forward method, and at most 128 for each window start, where method 6 reads
 -- it and verifies it.
-use mathlib.Core.Path.{◌≡◌, refl}
+use mathlib.Core.Path.{◌≡◌}
 use mathlib.Core.List.{List}
 use mathlib.Core.Logic.{⊎_elim}
 use Prim.Native.Nat.{ℕ, zero, suc, ◌+◌, ◌*◌, ◌≤◌, ◌<◌}
@@ -15,7 +15,7 @@ use Rattle.jumbled.proofs.Ebl.{ebl-most}
 use Rattle.jumbled.proofs.Sums.{below_or_not}
 use Rattle.chunk_backward.specs.Scans.{scan_of}
 use Rattle.chunk_backward.proofs.Scans.{scan-inspections}
-use Rattle.chunk_forward.proofs.Forwards.{hcam-few}
+use Rattle.loop_hcam.specs.Hashing.{verification-small}
 use Rattle.chunk_search.proofs.Steps.{way-1, way-5, way-6, way-backward}
 
 -- the first window may cost more than the others
@@ -43,7 +43,7 @@ module _ (P : List ℕ) (k method : ℕ) (T : List ℕ) (request : Admitted P k 
   by_values e =
       let short = request.short in
       rw (way-5 P k method e)
-      (omega (arith, forward-few (hcam_judged P) (length P) T (hcam-few P refl short) 0 (starts (length P) T) (length P)))
+      (omega (arith, forward-few (hcam_judged P) (length P) T (verification-small P short) 0 (starts (length P) T) (length P)))
 
   by-scans : 2 ≤ method → method ≤ 4 → (steps P k method T).inspections ≤ 128 * starts (length P) T + 64
   unfolding steps
