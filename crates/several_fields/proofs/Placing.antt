@@ -1,5 +1,5 @@
 -- The bytes' words before a byte of the text is taken: what each pattern adds, and all of them.
-use mathlib.Core.Path.{◌≡◌, refl, sym, ap, ap₂, ◌∙◌}
+use mathlib.Core.Path.{◌≡◌, refl, sym, ap, ◌∙◌}
 use mathlib.Core.Bool.{Bool, true, false, cond}
 use mathlib.Core.List.{List, []}
 use Prim.Native.Nat.{ℕ, ◌+◌, ◌-◌, ◌*◌, ◌%◌, ◌^◌, ◌≤◌, ◌<◌}
@@ -129,25 +129,24 @@ module _ {patterns : List ℕ} {m count : ℕ} {fields : Fields} {rooms : List �
         ))
 
     -- as the code has them: the pattern as a part of the bytes, and its unit as a 1 moved up
-    module _ {at : ℕ} (e : at ≡ n * m) where
-      abbrev part : List ℕ
-      part = take (at + m - at) (drop at patterns)
+    abbrev part : List ℕ
+    part = take ((n + 1) * m - n * m) (drop (n * m) patterns)
 
-      abbrev unit : ℕ
-      unit = (1 * 2 ^ (8 * n)) % 2 ^ 64
+    abbrev unit : ℕ
+    unit = (1 * 2 ^ (8 * n)) % 2 ^ 64
 
-      part-is : part ≡ pattern_at m patterns n
-      part-is = let rest : at + m - at ≡ m = omega arith in ap₂ (λ (k i : ℕ). take k (drop i patterns)) rest e
+    part-is : part ≡ pattern_at m patterns n
+    part-is = let rest : (n + 1) * m - n * m ≡ m = omega (arith, add-mul n 1 m, one-mul m) in ap (λ (k : ℕ). take k (drop (n * m) patterns)) rest
 
-      unit-is : unit ≡ 2 ^ (8 * n)
-      unit-is = unit-at n (omega (arith, given.few))
+    unit-is : unit ≡ 2 ^ (8 * n)
+    unit-is = unit-at n (omega (arith, given.few))
 
-      module _ {so_far : List ℕ} (placed : so_far ≡ tabulate 256 (placed_word m patterns count n)) where
-        pub part-able : Placeable part unit so_far
-        part-able = rw (part-is, unit-is, placed) placed-able
+    module _ {so_far : List ℕ} (placed : so_far ≡ tabulate 256 (placed_word m patterns count n)) where
+      pub part-able : Placeable part unit so_far
+      part-able = rw (part-is, unit-is, placed) placed-able
 
-        pub part-added : units_added part unit so_far ≡ tabulate 256 (placed_word m patterns count (n + 1))
-        part-added = rw (part-is, unit-is, placed) placed-more
+      pub part-added : units_added part unit so_far ≡ tabulate 256 (placed_word m patterns count (n + 1))
+      part-added = rw (part-is, unit-is, placed) placed-more
 
   -- the lost hour's room, the same in every field
   lost-room : fields.ones * 191 ≡ packed (λ f. top_value - 1 + 64) count

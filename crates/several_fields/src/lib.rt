@@ -10,7 +10,7 @@ ghost use Rattle.several_fields.specs.Words.{FieldsFor, Placeable, units_added, 
 use table_parikh::LOST_HOUR;
 
 // What all words of a search have in common.
-#[derive(Clone, Copy)]
+#[derive(Clone, Copy, Debug, PartialEq, Eq)]
 pub struct Fields {
     // 1 in every field,
     pub ones: u64,
@@ -41,9 +41,8 @@ fn place_pattern(pattern: &[u8], unit: u64, rooms: &mut [u64; 256])
     requires { Placeable pattern.now unit rooms.old }
     ensures { rooms.new ≡ units_added pattern.now unit rooms.old }
 {
-    for i in 0..pattern.len() {
-        let byte = pattern[i] as usize;
-        rooms[byte] += unit;
+    for byte in pattern {
+        rooms[*byte as usize] += unit;
     }
 }
 
@@ -59,10 +58,9 @@ pub fn place_patterns(
     requires { Placing patterns.now m count fields rooms.old }
     ensures { Placed patterns.now m count rooms.new }
 {
-    let mut at = 0;
     for field in 0..count {
-        place_pattern(&patterns[at..at + m], 1u64 << (8 * field), rooms);
-        at += m;
+        let pattern = &patterns[field * m..(field + 1) * m];
+        place_pattern(pattern, 1u64 << (8 * field), rooms);
     }
     rooms[LOST_HOUR as usize] = fields.ones * 191; // one less than the top bit, and 64
 }

@@ -1,8 +1,6 @@
-use mathlib.Core.Path.{◌≡◌}
-use Prim.Native.Nat.{◌≤◌}
-use lib.ListN.{take, length}
+use Rattle.std.proofs.Common.{◌≡◌, take}
 use Rattle.several_fields.specs.Words.{units_added}
 use Rattle.several_fields.proofs.place_pattern.Given as goal
 
-abbrev pub invariant-loop-i : goal.invariant-loop-i
-invariant-loop-i l = (l.i ≤ length l.pattern) × (l.rooms ≡ units_added (take l.i l.pattern) l.unit l.initial.rooms)
+abbrev pub invariant-loop-byte : goal.invariant-loop-byte
+invariant-loop-byte l = l.rooms ≡ units_added (take l.byte-index l.pattern) l.unit l.initial.rooms
