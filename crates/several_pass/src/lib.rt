@@ -33,7 +33,7 @@ fn note(
 }
 
 // The window's word once the bytes of the first window but its last are taken, and the inspections that it took.
-#[derive(Drop)]
+#[derive(Clone, Copy, Debug, PartialEq, Eq)]
 pub struct Started {
     pub word: u64,
     pub inspections: usize,
@@ -45,9 +45,9 @@ fn start(m: usize, fields: Fields, text: &[u8], rooms: &mut [u64; 256]) -> Start
 {
     let mut word = fields.start;
     let mut inspections = 0;
-    for i in 0..m - 1 {
+    for byte in &text[..m - 1] {
         inspections += 1;
-        word = several_fields::take(fields, word, text[i], rooms);
+        word = several_fields::take(fields, word, *byte, rooms);
     }
     Started { word, inspections }
 }
