@@ -22,6 +22,7 @@ fn note(
     ensures { Notes word count s at positions.old positions.new numbers.old numbers.new result }
 {
     let mut next = at;
+    // By number: a field is a place in the word, and its number goes into the list.
     for field in 0..count {
         if word & (128u64 << (8 * field)) != 0 {
             positions[next] = s as u32;
@@ -76,6 +77,7 @@ pub fn pass(
     let mut word = started.word;
     let mut inspections = started.inspections;
     let mut at = 0;
+    // By number: s goes into the list, and the bytes that enter and leave stand m - 1 apart.
     for s in 0..text.len() - m + 1 {
         inspections += 1; // the window's last byte
         word = several_fields::take(fields, word, text[s + m - 1], rooms);

@@ -75,6 +75,7 @@ pub fn fill_values(pattern: &[u8], counts: &[u8; 256], values: &mut [u64; 256]) 
         value: 1,
         largest: Some(0),
     };
+    // The byte is a place in two tables, one read and one written.
     for byte in span.low..span.past {
         if counts[byte] > 0 {
             values[byte] = power.value;

@@ -54,6 +54,7 @@ pub fn place_units(fields: &PatternFields, shared: Field, units: &mut [u64; 256]
     let mut start = shared.start;
     let mut tops = shared.top;
     let mut at: usize = 0;
+    // The byte is a place in two tables, one read and one written.
     for byte in fields.span.low..fields.span.past {
         let count = fields.counts[byte] as usize;
         if 0 < count {
@@ -76,6 +77,7 @@ pub fn place_own_tops(fields: &PatternFields, own_tops: &mut [u64; 256])
     ensures { OwnTops fields.now.pattern.now (layout fields.now) own_tops.new }
 {
     let mut at: usize = 0;
+    // The byte is a place in two tables, one read and one written.
     for byte in fields.span.low..fields.span.past {
         let count = fields.counts[byte] as usize;
         if 0 < count {
