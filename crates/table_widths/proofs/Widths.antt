@@ -48,27 +48,21 @@ pub ruleset widths = (lg-le)
 
 -- ---- the layouts by the method's number
 
-pub layout-2 : (k method : ℕ) → method ≡ 2 → layout_of k method ≡ bam_layout
+layout-2 : (k method : ℕ) → method ≡ 2 → layout_of k method ≡ bam_layout
 unfolding layout_of
 layout-2 k method e = rw e refl
 
-pub layout-3 : (k method : ℕ) → method ≡ 3 → layout_of k method ≡ bam2_layout
+layout-3 : (k method : ℕ) → method ≡ 3 → layout_of k method ≡ bam2_layout
 unfolding layout_of
 layout-3 k method e = rw e refl
 
-pub layout-4 : (k method : ℕ) → method ≡ 4 → layout_of k method ≡ abam_layout k
+layout-4 : (k method : ℕ) → method ≡ 4 → layout_of k method ≡ abam_layout k
 unfolding layout_of
 layout-4 k method e = rw e refl
 
 pub layout-none : (k method : ℕ) → (method ≡ 2 → ⊥) → (method ≡ 3 → ⊥) → (method ≡ 4 → ⊥) → layout_of k method ≡ no_layout
 unfolding layout_of
 layout-none k method e2 e3 e4 = rw (ne_eqb method 2 e2, ne_eqb method 3 e3, ne_eqb method 4 e4) refl
-
--- methods 2 and 3 have the same widths of their own fields
-pub own-2-3 : (k method v : ℕ) → 2 ≤ method → method < 4 → (layout_of k method).own v ≡ letter_width v
-own-2-3 k method v l h =
-    ⊎_elim (λ (m : method < 3). ap (λ (L : Layout). L.own v) (layout-2 k method (omega arith)))
-    (λ (m : 3 ≤ method). ap (λ (L : Layout). L.own v) (layout-3 k method (omega arith))) (below_or_not method 3)
 
 -- ---- what the proofs use of a layout's widths, for a k and counts of at most 64
 
