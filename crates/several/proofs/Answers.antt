@@ -1,5 +1,5 @@
 -- The answer of a search for several patterns: a refusal, or what is found.
-use mathlib.Core.Path.{◌≡◌, refl, sym, ◌∙◌}
+use mathlib.Core.Path.{◌≡◌, sym, ◌∙◌}
 use mathlib.Core.List.{List, [], ◌∷◌, Memᴰ}
 use Prim.Native.Nat.{ℕ}
 use native.Mathlib.Nat.{zero-add}
@@ -8,12 +8,11 @@ use lib.ListN.{length, get_or}
 use Rattle.jumbled.specs.Match.{Bytes}
 use Rattle.jumbled.specs.Refusals.{given, each_length_tests, set_tests, lost_tests, tolerance_tests, text_tests, pair_place_tests, several_pattern_tests, several_size_tests, several_tests}
 use Rattle.jumbled.proofs.Admission.{given-append, given-among}
+use Rattle.std.specs.Prelude.{Ok, Err}
 use Rattle.lent.specs.Placed.{placed}
 use Rattle.lent.specs.declared.SearchCounts.{SearchCounts}
 use Rattle.answers.specs.Numbers.{number_of, unless_refused}
 use Rattle.answers.specs.declared.Refusal.{Refusal}
-use Rattle.answers.specs.declared.Answer.TheVariants.{Listed, Refused}
-use Rattle.answers.specs.declared.Admission.TheVariants as Admission
 use Rattle.answers.proofs.Refused.{number-positive, on-refusal, on-accepted, still-refused, tested-later}
 use Rattle.admit_several.proofs.Taken.{several-pattern-numbered, SeveralTaken}
 use Rattle.several_form.specs.Finds.{Find, Together, finds, positions_in, numbers_in}
@@ -59,7 +58,7 @@ module _ (bytes lengths : List ℕ) (k : ℕ) (T positions numbers : List ℕ) w
   several-numbers = given-among (several_tests lengths bytes k (length T) (length positions) (length numbers))
 
   -- a refusal leaves everything as it was
-  pub several-refusal : (refusal : Refusal) → number_of refusal ≡ number → WholeSeveral bytes lengths k T positions positions numbers numbers (Refused refusal)
+  pub several-refusal : (refusal : Refusal) → number_of refusal ≡ number → WholeSeveral bytes lengths k T positions positions numbers numbers (Err refusal)
   several-refusal refusal e =
       record {
         number = e;
@@ -71,13 +70,13 @@ module _ (bytes lengths : List ℕ) (k : ℕ) (T positions numbers : List ℕ) w
       }
 
   pub several-refusal-early : (refusal : Refusal) → number_of refusal ≡ given (several_pattern_tests lengths bytes k)
-      → WholeSeveral bytes lengths k T positions positions numbers numbers (Refused refusal)
-  several-refusal-early refusal e = several-refusal refusal (still-refused _ _ (Admission.Refused refusal) refusal refl e ∙ sym several-number)
+      → WholeSeveral bytes lengths k T positions positions numbers numbers (Err refusal)
+  several-refusal-early refusal e = several-refusal refusal (still-refused _ _ refusal e ∙ sym several-number)
 
   -- what the pass found
   pub several-found : Bytes T → SeveralTaken lengths bytes k → number ≡ 0 → {positions' numbers' : List ℕ} {counts : SearchCounts}
       → PassedOver (patterns_of lengths bytes) k T positions positions' numbers numbers' counts
-      → WholeSeveral bytes lengths k T positions positions' numbers numbers' (Listed counts.found counts.inspections)
+      → WholeSeveral bytes lengths k T positions positions' numbers numbers' (Ok counts)
   several-found bytes-right taken e passed =
       let noted = passed.noted in
       record {

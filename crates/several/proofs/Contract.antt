@@ -7,8 +7,8 @@ use Rattle.jumbled.specs.Refusals.{given, several_pattern_tests, several_size_te
 use Rattle.jumbled.proofs.Admission.{given-append-none}
 use Rattle.lent.specs.Placed.{FirstPlaces}
 use Rattle.lent.proofs.Placing.{first-places}
-use Rattle.answers.specs.Answers.{answer_number, answer_found, answer_inspections}
-use Rattle.answers.specs.declared.Answer.{Answer}
+use Rattle.answers.specs.Numbers.{answer_number}
+use Rattle.answers.specs.Answers.{Answer, answer_found, answer_inspections}
 use Rattle.answers.proofs.Refused.{IsRefused, is_zero, not-zero}
 use Rattle.admit_several.proofs.Taken.{several-pattern-numbered, SeveralTaken, several-taken, PairTaken, pair-taken}
 use Rattle.several_form.specs.Finds.{Find, positions_in, numbers_in, finds}

@@ -16,8 +16,8 @@ use Rattle.jumbled.proofs.Admission.{first_chunk, size_fits}
 use Rattle.jumbled.proofs.Positions.{listed, count-inspections, no-inspections}
 use Rattle.lent.specs.Placed.{FirstPlaces}
 use Rattle.lent.proofs.Placing.{first-places}
-use Rattle.answers.specs.Answers.{answer_number, answer_found, answer_inspections}
-use Rattle.answers.specs.declared.Answer.{Answer}
+use Rattle.answers.specs.Numbers.{answer_number}
+use Rattle.answers.specs.Answers.{Answer, answer_found, answer_inspections}
 use Rattle.admit_pattern.proofs.Counting.{counting-taken}
 use Rattle.search_whole.specs.Whole.{whole_number, Whole}
 use Rattle.search_whole.proofs.Wholes.{whole-late}

@@ -1,8 +1,8 @@
 -- That one pass for several patterns is the counting searches for each of them, put together: document 02, T-01.
 use Rattle.std.specs.Prelude.{◌≡◌, List, ◌⊎◌, ℕ, suc, ◌≤◌, ◌<◌, length, get_or, take}
 use Rattle.jumbled.specs.Match.{sum}
-use Rattle.answers.specs.Answers.{answer_number, answer_found, answer_inspections}
-use Rattle.answers.specs.declared.Answer.{Answer}
+use Rattle.answers.specs.Numbers.{answer_number}
+use Rattle.answers.specs.Answers.{Answer, answer_found, answer_inspections}
 use Rattle.search_whole.specs.Whole.{Whole}
 use Rattle.several_form.specs.Finds.{Find, numbered, side_by_side, positions_of}
 

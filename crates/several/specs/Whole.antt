@@ -2,9 +2,8 @@
 use Rattle.std.specs.Prelude.{◌≡◌, List, ℕ, length}
 use Rattle.jumbled.specs.Refusals.{given, several_tests}
 use Rattle.lent.specs.Placed.{placed}
-use Rattle.answers.specs.Numbers.{unless_refused}
-use Rattle.answers.specs.Answers.{answer_number, answer_found, answer_inspections}
-use Rattle.answers.specs.declared.Answer.{Answer}
+use Rattle.answers.specs.Numbers.{answer_number, unless_refused}
+use Rattle.answers.specs.Answers.{Answer, answer_found, answer_inspections}
 use Rattle.several_form.specs.Finds.{finds, positions_in, numbers_in}
 use Rattle.several_form.specs.Mcount.{mcount}
 use Rattle.several_form.specs.Handed.{patterns_of}

@@ -4,7 +4,6 @@
 
 ghost use Rattle.several.specs.Whole.{WholeSeveral};
 
-use answers::Admission;
 pub use answers::{Answer, Refusal, number_of};
 
 // All of the text at once, for up to eight patterns of one length: their bytes follow one another, and each has its length. The lists' first places
@@ -20,29 +19,19 @@ pub fn whole(
     ensures { WholeSeveral patterns.now lengths.now k text.now positions.old positions.new
         numbers.old numbers.new result }
 {
-    let admission = admit_several::admit(lengths, patterns, k);
-    if let Admission::Refused(refusal) = admission {
-        return Answer::Refused(refusal);
-    }
+    admit_several::admit(lengths, patterns, k)?;
     let count = lengths.len();
     let m = lengths[0];
-    let limits = admit_several::limits(
+    admit_several::limits(
         search_whole::LONGEST_TEXT,
         text.len(),
         count,
         positions.len(),
         numbers.len(),
-    );
-    if let Admission::Refused(refusal) = limits {
-        return Answer::Refused(refusal);
-    }
+    )?;
     let fields = several_fields::fields_for(count, m - k as usize);
     // One less than the top bit in every field; each pattern adds what it has of a byte.
     let mut rooms = [fields.tops - fields.ones; 256];
     several_fields::place_patterns(patterns, m, count, fields, &mut rooms);
-    let counts = several_pass::pass(m, count, fields, &mut rooms, text, positions, numbers);
-    Answer::Listed {
-        found: counts.found,
-        inspections: counts.inspections,
-    }
+    Ok(several_pass::pass(m, count, fields, &mut rooms, text, positions, numbers))
 }
