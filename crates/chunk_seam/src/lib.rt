@@ -9,7 +9,7 @@ use lent::{Range, copy_in};
 use std::marker::Model;
 
 // The windows of a tail and of the chunk after it.
-#[derive(Clone, Copy)]
+#[derive(Clone, Copy, Debug, PartialEq, Eq)]
 pub struct Split {
     // How many bytes the tail has, the seam's first ones.
     pub tail: usize,

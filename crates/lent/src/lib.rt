@@ -3,7 +3,7 @@
 
 #![tactic(auto)]
 
-ghost use Rattle.std.specs.Prelude.{◌≡◌, ◌+◌, ◌≤◌, min, length, replicate};
+ghost use Rattle.std.specs.Prelude.{◌≡◌, ◌+◌, ◌≤◌, length, replicate};
 ghost use Rattle.lent.specs.Written.{Written};
 
 pub mod writer;
@@ -11,7 +11,7 @@ pub mod writer;
 use std::io::Read;
 
 // The window starts of a slice that a loop searches, and where their positions go.
-#[derive(Clone, Copy)]
+#[derive(Clone, Copy, Debug, PartialEq, Eq)]
 pub struct Range {
     // The first window start,
     pub first: usize,
@@ -53,6 +53,7 @@ pub fn read_full<R: Read>(reader: &mut R, buffer: &mut [u8]) -> usize
     ensures same_length { length buffer.new ≡ length buffer.old }
 {
     let mut read = 0;
+    // Not one by one: each turn goes on by as many bytes as a read gave.
     while read < buffer.len() {
         match reader.read(&mut buffer[read..]) {
             Ok(0) | Err(_) => break,
@@ -60,11 +61,4 @@ pub fn read_full<R: Read>(reader: &mut R, buffer: &mut [u8]) -> usize
         }
     }
     read
-}
-
-// The smaller of two numbers: as much as there is, or as much as there is room for.
-pub fn least(a: usize, b: usize) -> usize
-    ensures { result ≡ min a b }
-{
-    if a < b { a } else { b }
 }

@@ -1,18 +1,15 @@
 -- Which call each kind of case asks for, and what the call comes to (tools/vectors_stream.py, "Operations"). What a call gives is said by its own
 -- record: `Whole` of search_whole, `WholeSeveral` of several, `WholeSheet` of sheet, `AtOrAfter` of first, `Assembles` of resent, and `Opened`,
 -- `Feeds`, `SetsMethod`, `Saves` and `Loads` of search.
-use Rattle.std.specs.Prelude.{◌≡◌, cond, List, [], ◌++◌, ℕ, min, eqb, ltb, length}
+use Rattle.std.specs.Prelude.{◌≡◌, cond, List, [], ◌++◌, ℕ, min, eqb, ltb, length, Result, Ok, Err}
 use Rattle.std.proofs.Math.Option.{Option-elim, get_or}
 use Rattle.jumbled.specs.Match.{bit}
 use Rattle.jumbled.specs.Fields.{layout_of, bits}
 use Rattle.jumbled.specs.Heap.{exact}
-use Rattle.answers.specs.Numbers.{admission_number}
-use Rattle.answers.specs.Answers.{answer_number, answer_found, answer_inspections, saving_number, saving_length}
-use Rattle.answers.specs.Answers.{sheet_number, sheet_found, sheet_inspections, sheet_length}
-use Rattle.answers.specs.Answers.{first_number, first_position, first_inspections}
-use Rattle.answers.specs.declared.Answer.{Answer}
-use Rattle.answers.specs.declared.SheetAnswer.{SheetAnswer}
-use Rattle.answers.specs.declared.FirstAnswer.{FirstAnswer}
+use Rattle.answers.specs.declared.Refusal.{Refusal}
+use Rattle.answers.specs.Numbers.{number_of, answer_number}
+use Rattle.answers.specs.Answers.{Answer, SheetAnswer, FirstAnswer, answer_found, answer_inspections, saving_length}
+use Rattle.answers.specs.Answers.{sheet_found, sheet_inspections, sheet_length, first_position, first_inspections}
 use Rattle.image_form.specs.Image.{low_first}
 use Rattle.table_parikh.specs.Table.{tabulate}
 use Rattle.search_whole.specs.Whole.{Whole}
@@ -31,6 +28,7 @@ use Rattle.tests_stream.specs.Fillings.{known_place, known_byte}
 use Rattle.tests_stream.specs.Cases.{fields_of}
 use Rattle.tests_stream.specs.Patterns.{lent_places, pattern_lengths, pattern_bytes, marked_pattern, start_position, pattern_after_start}
 use Rattle.tests_stream.specs.declared.cases.Case.{Case}
+use Rattle.tests_stream.specs.Kinds.{kind_number}
 use Rattle.tests_outcomes.specs.Digests.{digest, list_bytes}
 use Rattle.tests_outcomes.specs.Outcomes.{outcome_of}
 use Rattle.tests_outcomes.specs.declared.Outcome.{Outcome}
@@ -52,24 +50,32 @@ called_with s got = record { search = s; got = got }
 abbrev pub number_outcome : ℕ → Outcome
 number_outcome a = outcome_of 0 a 0 0
 
+-- a call that gave two numbers, or that was refused and gave none, and a digest
+abbrev pub given_outcome : ℕ → Result (ℕ × ℕ) Refusal → Outcome
+given_outcome digested (Ok given) = outcome_of 0 given.0 given.1 digested
+given_outcome digested (Err refusal) = outcome_of (number_of refusal) 0 0 digested
+
 -- a search of a text or a chunk: the number, found and inspections, and a digest
 abbrev pub answer_outcome : ℕ → Answer → Outcome
 answer_outcome digested answer = outcome_of (answer_number answer) (answer_found answer) (answer_inspections answer) digested
 
--- a search with its marked sheet, which left a list and a buffer of these bytes: the sheet's length is digested after them
+-- a search with its marked sheet, and a digest
+abbrev pub sheet_counted : ℕ → SheetAnswer → Outcome
+sheet_counted digested answer = outcome_of (answer_number answer) (sheet_found answer) (sheet_inspections answer) digested
+
+-- one which left a list and a buffer of these bytes: the sheet's length is digested after them
 abbrev pub sheet_outcome : List ℕ → SheetAnswer → Outcome
-sheet_outcome U answer =
-    outcome_of (sheet_number answer) (sheet_found answer) (sheet_inspections answer) (digest 0 (U ++ low_first 8 (sheet_length answer)))
+sheet_outcome U answer = sheet_counted (digest 0 (U ++ low_first 8 (sheet_length answer))) answer
 
 -- a search for the first match: 1 where there is one, else 0, and the digest of its position, which counts as 0 where there is none
 abbrev pub first_outcome : FirstAnswer → Outcome
 first_outcome answer =
-    outcome_of (first_number answer) (Option-elim (first_position answer) 0 (λ position. 1)) (first_inspections answer)
+    outcome_of (answer_number answer) (Option-elim (first_position answer) 0 (λ position. 1)) (first_inspections answer)
     (digest 0 (low_first 8 (get_or (first_position answer) 0)))
 
 -- readings that were sent again: the number, and the digest of the text that was made of them
 abbrev pub resent_outcome : Assembled → Outcome
-resent_outcome r = outcome_of (admission_number r.admission) 0 0 (digest 0 r.text)
+resent_outcome r = outcome_of (answer_number r.admission) 0 0 (digest 0 r.text)
 
 -- the digest of the bytes that a call left in a list or a buffer, and then of the search
 abbrev pub digest_with : List ℕ → Search → ℕ
@@ -77,7 +83,7 @@ digest_with U s = digest 0 (U ++ search_bytes s)
 
 -- open, set method and load
 abbrev pub admission_called : SearchResult → Called
-admission_called r = called_with r.search (outcome_of (admission_number r.admission) 0 0 (digest_with [] r.search))
+admission_called r = called_with r.search (outcome_of (answer_number r.admission) 0 0 (digest_with [] r.search))
 
 -- feed, which left a list of these bytes
 abbrev pub feed_called : List ℕ → FeedResult → Called
@@ -85,7 +91,7 @@ feed_called U r = called_with r.search (answer_outcome (digest_with U r.search) 
 
 -- save, which left this buffer
 abbrev pub save_called : List ℕ → SaveResult → Called
-save_called U r = called_with r.search (outcome_of (saving_number r.saving) (saving_length r.saving) 0 (digest_with U r.search))
+save_called U r = called_with r.search (outcome_of (answer_number r.saving) (saving_length r.saving) 0 (digest_with U r.search))
 
 -- ---- the calls
 
@@ -162,10 +168,10 @@ pub record Beside (Made : Outcome → Type 0) (s : Search) (called : Called) : T
 -- filled in by hand (7), or one of those above. A feed alone of these changes the list.
 unfoldable pub CallMade : Case → Search → (P T before after : List ℕ) → Called → Type 0
 CallMade case s P T before after called =
-    cond (eqb case.op 2) ((after ≡ before) × Came (Opened P case.k case.method) admission_called called)
-    (cond (eqb case.op 3) (Came (Feeds s T before after) (feed_called (list_bytes after)) called)
-    (cond (eqb case.op 4) ((after ≡ before) × Came (SetsMethod s case.method) admission_called called)
-    (cond (eqb case.op 5) ((after ≡ before) × SaveMade s (known_buffer case.places) called)
-    (cond (eqb case.op 6) ((after ≡ before) × Came (Loads T) admission_called called)
-    (cond (eqb case.op 7) ((after ≡ before) × (called ≡ called_with (search_of (fields_of T)) (number_outcome 0)))
-    (Beside (OutcomeMade case.op P case.k case.method T before after) s called))))))
+    cond (eqb (kind_number case.kind) 2) ((after ≡ before) × Came (Opened P case.k case.method) admission_called called)
+    (cond (eqb (kind_number case.kind) 3) (Came (Feeds s T before after) (feed_called (list_bytes after)) called)
+    (cond (eqb (kind_number case.kind) 4) ((after ≡ before) × Came (SetsMethod s case.method) admission_called called)
+    (cond (eqb (kind_number case.kind) 5) ((after ≡ before) × SaveMade s (known_buffer case.places) called)
+    (cond (eqb (kind_number case.kind) 6) ((after ≡ before) × Came (Loads T) admission_called called)
+    (cond (eqb (kind_number case.kind) 7) ((after ≡ before) × (called ≡ called_with (search_of (fields_of T)) (number_outcome 0)))
+    (Beside (OutcomeMade (kind_number case.kind) P case.k case.method T before after) s called))))))

@@ -1,127 +1,95 @@
 // Outcomes, made of what a call answered.
-ghost use Rattle.std.specs.Prelude.{◌≡◌, List, ℕ, ◌<◌};
-ghost use Rattle.answers.specs.Numbers.{admission_number};
-ghost use Rattle.answers.specs.Answers.{answer_number, answer_found, answer_inspections, saving_number, saving_length};
-ghost use Rattle.tests_outcomes.specs.Digests.{Digested};
+ghost use Rattle.std.specs.Prelude.{Ok, ◌≡◌};
+ghost use Rattle.tests_outcomes.specs.Digests.{digest};
+ghost use Rattle.image_form.specs.Image.{low_first};
+ghost use Rattle.answers.specs.Numbers.{answer_number};
+ghost use Rattle.answers.specs.Answers.{saving_length, sheet_length};
 ghost use Rattle.tests_outcomes.specs.Outcomes.{outcome_of};
-ghost use Rattle.tests_calls.specs.Calls.{sheet_outcome, first_outcome};
+ghost use Rattle.tests_calls.specs.Calls.{given_outcome, answer_outcome, first_outcome, sheet_counted};
 
-use answers::{FirstAnswer, SheetAnswer};
-use search::{Admission, Answer, Saving};
-use tests_outcomes::{Outcome, digest_number};
+use answers::{Admission, Answer, First, FirstAnswer, Refusal, Saving, SheetAnswer};
+use tests_outcomes::Outcome;
+use tests_outcomes::digest::Digest;
 
-// What a search of a text or a chunk answered. A refusal gives no numbers.
-pub fn answered(answer: Answer, digest: u64) -> Outcome
-    ensures { result ≡ outcome_of (answer_number answer) (answer_found answer) (answer_inspections answer) digest }
+// Of a call that gave two numbers, or that was refused and gave none.
+fn outcome(given: Result<(usize, usize), Refusal>, left: Digest) -> Outcome
+    ensures { result ≡ given_outcome left.value given }
 {
-    match answer {
-        Answer::Refused(refusal) => Outcome {
+    match given {
+        Ok((a, b)) => Outcome {
+            number: 0,
+            a: a as u64,
+            b: b as u64,
+            digest: left.value,
+        },
+        Err(refusal) => Outcome {
             number: answers::number_of(refusal) as u64,
             a: 0,
             b: 0,
-            digest,
-        },
-        Answer::Listed { found, inspections } => Outcome {
-            number: 0,
-            a: found as u64,
-            b: inspections as u64,
-            digest,
+            digest: left.value,
         },
     }
+}
+
+// What a search of a text or a chunk answered.
+pub fn answered(answer: Answer, left: Digest) -> Outcome
+    ensures { result ≡ answer_outcome left.value answer }
+{
+    outcome(
+        answer.map(|counts| (counts.found, counts.inspections)),
+        left,
+    )
 }
 
 // What open, set method, load and resent answered.
-pub fn admitted(admission: Admission, digest: u64) -> Outcome
-    ensures { result ≡ outcome_of (admission_number admission) 0 0 digest }
+pub fn admitted(admission: Admission, left: Digest) -> Outcome
+    ensures { result ≡ outcome_of (answer_number admission) 0 0 left.value }
 {
-    match admission {
-        Admission::Refused(refusal) => Outcome {
-            number: answers::number_of(refusal) as u64,
-            a: 0,
-            b: 0,
-            digest,
-        },
-        Admission::Accepted => Outcome {
-            number: 0,
-            a: 0,
-            b: 0,
-            digest,
-        },
-    }
+    outcome(admission.map(|_| (0, 0)), left)
 }
 
 // What save answered.
-pub fn saved(saving: Saving, digest: u64) -> Outcome
-    ensures { result ≡ outcome_of (saving_number saving) (saving_length saving) 0 digest }
+pub fn saved(saving: Saving, left: Digest) -> Outcome
+    ensures { result ≡ outcome_of (answer_number saving) (saving_length saving) 0 left.value }
 {
-    match saving {
-        Saving::Refused(refusal) => Outcome {
-            number: answers::number_of(refusal) as u64,
-            a: 0,
-            b: 0,
-            digest,
-        },
-        Saving::Written(len) => Outcome {
-            number: 0,
-            a: len as u64,
-            b: 0,
-            digest,
-        },
-    }
+    outcome(saving.map(|len| (len, 0)), left)
 }
 
 // What a search with its marked sheet answered, after a list and a buffer with this digest. An outcome has no third number, so the sheet's length is
 // digested.
-pub fn marked(answer: SheetAnswer, digest: u64) -> Outcome
-    requires { digest < 72057594037927931 }
-    ensures { (U : List ℕ) → Digested 0 U digest → result ≡ sheet_outcome U answer }
+pub fn marked(answer: SheetAnswer, left: Digest) -> Outcome
+    ensures { result ≡ sheet_counted (digest left.value (low_first 8 (sheet_length answer))) answer }
 {
-    match answer {
-        SheetAnswer::Refused(refusal) => Outcome {
-            number: answers::number_of(refusal) as u64,
-            a: 0,
-            b: 0,
-            digest: digest_number(digest, 0, 8),
-        },
-        SheetAnswer::Written {
-            found,
-            inspections,
-            len,
-        } => Outcome {
-            number: 0,
-            a: found as u64,
-            b: inspections as u64,
-            digest: digest_number(digest, len as u64, 8),
-        },
+    let len = match answer {
+        Ok(counts) => counts.len,
+        Err(_) => 0,
+    };
+    outcome(
+        answer.map(|counts| (counts.found, counts.inspections)),
+        left.number(len as u64, 8),
+    )
+}
+
+// What a search for the first match came to: 1 where there is one, and the inspections. The position, for which no number is left, is digested; it
+// counts as 0 where there is none.
+fn first_found(first: First) -> Outcome
+    ensures { result ≡ first_outcome (Ok first) }
+{
+    match first.position {
+        Some(position) => outcome(
+            Ok((1, first.inspections)),
+            Digest::new().number(position as u64, 8),
+        ),
+        None => outcome(Ok((0, first.inspections)), Digest::new().number(0, 8)),
     }
 }
 
-// What a search for the first match answered: 1 where there is one, and the inspections. The position, for which no number is left, is digested; it
-// counts as 0 where there is none.
+// What it answered.
 pub fn first_answered(answer: FirstAnswer) -> Outcome
     ensures { result ≡ first_outcome answer }
 {
     match answer {
-        FirstAnswer::Refused(refusal) => Outcome {
-            number: answers::number_of(refusal) as u64,
-            a: 0,
-            b: 0,
-            digest: digest_number(0, 0, 8),
-        },
-        FirstAnswer::Nothing { inspections } => Outcome {
-            number: 0,
-            a: 0,
-            b: inspections as u64,
-            digest: digest_number(0, 0, 8),
-        },
-        FirstAnswer::Found {
-            position,
-            inspections,
-        } => Outcome {
-            number: 0,
-            a: 1,
-            b: inspections as u64,
-            digest: digest_number(0, position as u64, 8),
-        },
+        Ok(first) => first_found(first),
+        Err(refusal) => outcome(Err(refusal), Digest::new().number(0, 8)),
     }
 }

@@ -2,25 +2,27 @@
 
 #![tactic(auto)]
 
-ghost use Rattle.std.specs.Prelude.{◌≡◌, List, ◌++◌, ℕ, ◌<◌, length, replicate};
+ghost use Rattle.std.specs.Prelude.{◌≡◌, ◌++◌, length, replicate};
 ghost use Rattle.search.specs.Calls.{Feeds, Saves};
 ghost use Rattle.search_whole.specs.Whole.{Whole};
 ghost use Rattle.several.specs.Whole.{WholeSeveral};
 ghost use Rattle.sheet.specs.Whole.{WholeSheet};
-ghost use Rattle.tests_outcomes.specs.Digests.{Digested, digest, list_bytes};
-ghost use Rattle.tests_calls.specs.Calls.{Came, number_outcome, answer_outcome, admission_called, feed_called, save_called, SaveMade, known_buffer};
+ghost use Rattle.tests_outcomes.specs.Digests.{digest, list_bytes};
+ghost use Rattle.tests_calls.specs.Calls.{Came, called_with, number_outcome, answer_outcome, admission_called, feed_called, save_called, SaveMade, known_buffer};
 ghost use Rattle.tests_calls.specs.Calls.{SeveralMade, sheet_outcome, MarkedMade, FirstMade, ResentMade, report_outcome};
-ghost use Rattle.tests_calls.specs.Calls.{width_number, exact_number, OutcomeMade, CallMade};
+ghost use Rattle.tests_calls.specs.Calls.{width_number, exact_number, CallMade};
 
 mod from_answers;
 mod searches;
 
 use from_answers::{admitted, answered, first_answered, marked, saved};
+use methods::Method;
 use program_report::OUTPUT_ROOM;
 use search::{FeedResult, SaveResult, Search, SearchResult};
 use searches::{digest_search, search_of};
-use tests_outcomes::{Outcome, digest_bytes, digest_list};
-use tests_stream::cases::{Case, HAND, read_fields};
+use tests_outcomes::Outcome;
+use tests_outcomes::digest::Digest;
+use tests_stream::cases::{Case, Kind, read_fields};
 use tests_stream::patterns::{
     MOST_LENGTHS, lent_places, marked_pattern, pattern_after_start, pattern_bytes, read_lengths,
     start_position,
@@ -37,6 +39,13 @@ pub struct Called {
     pub got: Outcome,
 }
 
+// A call that leaves the search as it was.
+fn beside(search: Search, got: Outcome) -> Called
+    ensures { result ≡ called_with search got }
+{
+    Called { search, got }
+}
+
 // What open, set method and load gave.
 fn admission_called(given: SearchResult) -> Called
     ensures { result ≡ admission_called given }
@@ -45,20 +54,7 @@ fn admission_called(given: SearchResult) -> Called
     let search = given.search;
     Called {
         search,
-        got: admitted(admission, digest_search(0, search)),
-    }
-}
-
-// What feed gave, after a list with this digest.
-fn answer_called(fed: FeedResult, digest: u64) -> Called
-    requires { digest < 72057594037927931 }
-    ensures { (U : List ℕ) → Digested 0 U digest → result ≡ feed_called U fed }
-{
-    let answer = fed.answer;
-    let search = fed.search;
-    Called {
-        search,
-        got: answered(answer, digest_search(digest, search)),
+        got: admitted(admission, digest_search(Digest::new(), search)),
     }
 }
 
@@ -66,19 +62,11 @@ fn call_feed(before: Search, chunk: &[u8], list: &mut [u32]) -> Called
     ensures { Came (Feeds before chunk.now list.old list.new) (feed_called (list_bytes list.new)) result }
 {
     let fed = before.feed(chunk, list);
-    answer_called(fed, digest_list(0, list))
-}
-
-// What save gave, after a buffer with this digest.
-fn saving_called(res: SaveResult, digest: u64) -> Called
-    requires { digest < 72057594037927931 }
-    ensures { (U : List ℕ) → Digested 0 U digest → result ≡ save_called U res }
-{
-    let saving = res.saving;
-    let search = res.search;
+    let answer = fed.answer;
+    let search = fed.search;
     Called {
         search,
-        got: saved(saving, digest_search(digest, search)),
+        got: answered(answer, digest_search(Digest::new().list(list), search)),
     }
 }
 
@@ -87,7 +75,7 @@ fn call_save(before: Search, places: usize) -> Called
     ensures { SaveMade before (known_buffer places) result }
 {
     let mut bytes = [0u8; LONGEST_IMAGE];
-    let room = lent::least(places, LONGEST_IMAGE);
+    let room = places.min(LONGEST_IMAGE);
     fill_buffer(&mut bytes, room);
     save_into(before, &mut bytes[..room])
 }
@@ -95,8 +83,13 @@ fn call_save(before: Search, places: usize) -> Called
 fn save_into(before: Search, buffer: &mut [u8]) -> Called
     ensures { Came (Saves before buffer.old buffer.new) (save_called buffer.new) result }
 {
-    let result = before.save(buffer);
-    saving_called(result, digest_bytes(0, buffer))
+    let given = before.save(buffer);
+    let saving = given.saving;
+    let search = given.search;
+    Called {
+        search,
+        got: saved(saving, digest_search(Digest::new().bytes(buffer), search)),
+    }
 }
 
 fn call_whole(pattern: &[u8], k: u8, method: u8, text: &[u8], list: &mut [u32]) -> Outcome
@@ -104,7 +97,7 @@ fn call_whole(pattern: &[u8], k: u8, method: u8, text: &[u8], list: &mut [u32]) 
         (answer_outcome (digest 0 (list_bytes list.new))) result }
 {
     let answer = search::whole(pattern, k, method, text, list);
-    answered(answer, digest_list(0, list))
+    answered(answer, Digest::new().list(list))
 }
 
 // Searches for several patterns. The list of positions is filled already, and that of the numbers, which no other call has, is made here.
@@ -139,7 +132,7 @@ fn several_into(
         (answer_outcome (digest 0 (list_bytes positions.new ++ list_bytes numbers.new))) result }
 {
     let answer = several::whole(patterns, lengths, k, text, positions, numbers);
-    answered(answer, digest_list(digest_list(0, positions), numbers))
+    answered(answer, Digest::new().list(positions).list(numbers))
 }
 
 // Searches and writes the marked sheet. The list is filled already, and the sheet's buffer is made here.
@@ -171,7 +164,7 @@ fn marked_into(
         buffer.old buffer.new) (sheet_outcome (list_bytes list.new ++ buffer.new)) result }
 {
     let answer = sheet::whole(pattern, k, method, text, list, buffer);
-    marked(answer, digest_bytes(digest_list(0, list), buffer))
+    marked(answer, Digest::new().list(list).bytes(buffer))
 }
 
 // Searches for the first match from a position on. No list is lent.
@@ -190,14 +183,14 @@ fn call_resent(entries: &[u8]) -> Outcome
     let assembled = resent::assemble(entries);
     let admission = assembled.admission;
     let text = assembled.text;
-    admitted(admission, digest_bytes(0, &text))
+    admitted(admission, Digest::new().bytes(&text))
 }
 
 // A buffer for every output of mixlist's function.
 fn report_room() -> [u8; OUTPUT_ROOM]
     ensures { (result ≡ replicate 98560 0) × (98560 ≡ length result) }
 {
-    [0; OUTPUT_ROOM]
+    lent::room(0)
 }
 
 // The length of the output, and the digest of that.
@@ -210,7 +203,7 @@ fn call_report(input: &[u8]) -> Outcome
         number: 0,
         a: written as u64,
         b: 0,
-        digest: digest_bytes(0, &output[..written]),
+        digest: Digest::new().bytes(&output[..written]).value,
     }
 }
 
@@ -237,7 +230,10 @@ fn width_of(pattern: &[u8], k: u8, method: u8) -> usize
         return 0;
     }
     let counts = table_parikh::counts(pattern);
-    table_widths::field_bits(pattern, &counts, k as usize, method)
+    match Method::try_from(method) {
+        Ok(method) => table_widths::field_bits(pattern, &counts, k as usize, method),
+        Err(_) => 0,
+    }
 }
 
 // Whether method 5 takes a candidate for a match without verifying it. No longer pattern gets so far.
@@ -253,22 +249,6 @@ fn exact(pattern: &[u8]) -> usize
     if target.exact { 1 } else { 0 }
 }
 
-// The calls that no search is handed to.
-fn call_without(op: u8, pattern: &[u8], k: u8, method: u8, text: &[u8], list: &mut [u32]) -> Outcome
-    ensures { OutcomeMade op pattern.now k method text.now list.old list.new result }
-{
-    match op {
-        1 => call_whole(pattern, k, method, text, list),
-        8 => call_report(text),
-        9 => number_outcome(width_of(pattern, k, method)),
-        11 => call_several(pattern, k, text, list),
-        12 => call_marked(pattern, k, method, text, list),
-        13 => call_first(pattern, k, method, text),
-        14 => call_resent(text),
-        _ => number_outcome(exact(pattern)),
-    }
-}
-
 // Makes the call of a case. The list is filled already.
 pub fn make_call(
     case: Case,
@@ -279,20 +259,22 @@ pub fn make_call(
 ) -> Called
     ensures { CallMade case search pattern.now text.now list.old list.new result }
 {
-    let op = case.op;
-    match op {
-        2 => admission_called(Search::open(pattern, case.k, case.method)),
-        3 => call_feed(search, text, list),
-        4 => admission_called(search.set_method(case.method)),
-        5 => call_save(search, case.places),
-        6 => admission_called(Search::load(text)),
-        HAND => Called {
-            search: search_of(read_fields(text)),
-            got: number_outcome(0),
-        },
-        _ => Called {
-            search,
-            got: call_without(op, pattern, case.k, case.method, text, list),
-        },
+    let k = case.k;
+    let method = case.method;
+    match case.kind {
+        Kind::Whole => beside(search, call_whole(pattern, k, method, text, list)),
+        Kind::Open => admission_called(Search::open(pattern, k, method)),
+        Kind::Feed => call_feed(search, text, list),
+        Kind::SetMethod => admission_called(search.set_method(method)),
+        Kind::Save => call_save(search, case.places),
+        Kind::Load => admission_called(Search::load(text)),
+        Kind::Hand => beside(search_of(read_fields(text)), number_outcome(0)),
+        Kind::Report => beside(search, call_report(text)),
+        Kind::FieldBits => beside(search, number_outcome(width_of(pattern, k, method))),
+        Kind::Exact => beside(search, number_outcome(exact(pattern))),
+        Kind::Several => beside(search, call_several(pattern, k, text, list)),
+        Kind::Marked => beside(search, call_marked(pattern, k, method, text, list)),
+        Kind::First => beside(search, call_first(pattern, k, method, text)),
+        Kind::Resent => beside(search, call_resent(text)),
     }
 }

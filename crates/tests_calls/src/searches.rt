@@ -1,10 +1,10 @@
 // A search as the stream has it: filled in by hand, and digested.
-ghost use Rattle.std.specs.Prelude.{◌≡◌, ◌<◌};
-ghost use Rattle.tests_outcomes.specs.Digests.{Digested};
+ghost use Rattle.std.specs.Prelude.{◌≡◌};
+ghost use Rattle.tests_outcomes.specs.Digests.{digest};
 ghost use Rattle.tests_calls.specs.Searches.{search_bytes, search_of};
 
 use search::Search;
-use tests_outcomes::digest_fields;
+use tests_outcomes::digest::Digest;
 use tests_stream::cases::Fields;
 
 // The search with the fields that a case fills in by hand.
@@ -25,14 +25,12 @@ pub fn search_of(fields: Fields) -> Search
 }
 
 // A search with every byte that it stores, those past the lengths included.
-pub fn digest_search(before: u64, search: Search) -> u64
-    requires { before < 72057594037927931 }
-    ensures { Digested before (search_bytes search) result }
+pub fn digest_search(before: Digest, search: Search) -> Digest
+    ensures { result.value ≡ digest before.value (search_bytes search) }
 {
     let pattern = search.pattern;
     let tail = search.tail;
-    digest_fields(
-        before,
+    before.fields(
         &pattern,
         search.pattern_len,
         search.k,

@@ -1,15 +1,16 @@
 -- A case that was read, with the outcome after it, and whose call was made on what was read.
-use mathlib.Core.Path.{◌≡◌, ap}
+use mathlib.Core.Path.{◌≡◌, ap, subst}
 use mathlib.Core.Bool.{Bool, not}
 use mathlib.Core.List.{List}
 use Prim.Native.Nat.{ℕ, ◌+◌, ◌≤◌, ◌<◌}
 use native.Mathlib.Omega.{arith}
-use lib.Dec.{eqb}
 use lib.ListN.{length, take}
 use Rattle.search.specs.declared.Search.{Search}
 use Rattle.tests_stream.specs.Fillings.{Filled, known_place}
 use Rattle.tests_stream.specs.Reading.{nowhere}
-use Rattle.tests_stream.specs.Arguments.{stored_case_at, StoredCase}
+use Rattle.table_parikh.specs.Table.{tabulate}
+use Rattle.tests_stream.specs.Kinds.{kind_number, is_hand}
+use Rattle.tests_stream.specs.Arguments.{kind_at, stored_pattern, stored_text, CaseRead}
 use Rattle.tests_stream.specs.declared.cases.Case.{Case}
 use Rattle.tests_stream.proofs.Filling.{filled-part}
 use Rattle.tests_stream.proofs.Onward.{Onward, then-onward, either-onward, number-onward, case-onward}
@@ -22,18 +23,22 @@ use Rattle.vectors.specs.declared.Step.{Step}
 use Rattle.vectors.specs.Runs.{CaseRun}
 
 module _ {stream : List ℕ} (at : ℕ) {s : Search} {case : Case} {P P' T T' before list : List ℕ} (after : List ℕ) {outcome : StoredOutcome} {called : Called} where
-  pub case-run : StoredCase stream at case P P' T T'
-      → outcome ≡ outcome_after stream case.next (not (eqb case.op 7))
+  pub case-run : kind_number case.kind ≡ (kind_at stream at).value
+      → CaseRead stream (kind_at stream at).next case.kind case P P' T T'
+      → outcome ≡ outcome_after stream case.next (not (is_hand case.kind))
       → Filled known_place case.places before list
       → CallMade case s (take case.pattern P') (take case.text T') (take case.places list) after called
       → CaseRun stream at s
-      (record { op = case.op; got = called.got; expected = outcome.outcome; search = called.search; next = outcome.next })
-  case-run read stored filled made =
+      (record { kind = case.kind; got = called.got; expected = outcome.outcome; search = called.search; next = outcome.next })
+  case-run named read stored filled made =
       record {
-        op = ap (λ (c : Case). c.op) (stored-case at read);
-        stored = rw (stored-case at read) at stored;
+        kind = named;
+        stored = subst (λ (c : Case). outcome ≡ outcome_after stream c.next (not (is_hand case.kind))) (stored-case at read) stored;
         list = after;
-        made = rw (stored-pattern at read, stored-text at read, filled-part filled, stored-case at read) at made;
+        made =
+            subst (λ (c : Case). CallMade c s (stored_pattern stream at case.kind) (stored_text stream at case.kind) (tabulate c.places known_place) after called)
+            (stored-case at read)
+            (rw (stored-pattern at read, stored-text at read, filled-part filled) at made);
       }
 
 -- a case takes a byte at least
@@ -49,7 +54,7 @@ outcome-onward stream long at stored small =
 
 pub run-onward : {stream : List ℕ} {at : ℕ} {s : Search} {step : Step} → CaseRun stream at s step → length stream ≤ nowhere → at < length stream
     → at + 1 ≤ step.next
-run-onward {stream} {at} run long inside =
-    let case = case-onward stream long at inside in
-    let outcome = outcome-onward stream long _ (not (eqb (stored_case_at stream at).op 7)) case.at_most in
+run-onward {stream} {at} {step = step} run long inside =
+    let case = case-onward stream long at step.kind inside in
+    let outcome = outcome-onward stream long _ (not (is_hand step.kind)) case.at_most in
     rw (ap (λ (o : StoredOutcome). o.next) run.stored) (then-onward case outcome).no-earlier

@@ -3,13 +3,14 @@
 
 #![tactic(auto)]
 
-ghost use Rattle.std.specs.Prelude.{◌≡◌, ◌+◌, ◌^◌, ◌≤◌, ◌<◌, length, replicate};
-ghost use Rattle.vectors.specs.Runs.{CaseRun, tallied, TallyOf};
+ghost use Rattle.std.specs.Prelude.{◌≡◌, not, ◌+◌, ◌^◌, ◌≤◌, ◌<◌, length, replicate};
+ghost use Rattle.tests_stream.specs.Kinds.{is_hand};
+ghost use Rattle.vectors.specs.Runs.{CaseStep, tallied, TallyOf};
 
 use search::Search;
 use tests_calls::make_call;
 use tests_outcomes::{Outcome, print_difference, print_malformed, print_tally, read_outcome};
-use tests_stream::cases::{HAND, read_case};
+use tests_stream::cases::{Kind, read_case};
 use tests_stream::{byte_room, fill_list, list_room};
 
 // The longest stream; what follows isn't read.
@@ -18,7 +19,7 @@ const LONGEST_STREAM: usize = 1048576;
 // A case that was run: what its call came to, what is stored, the search that it left, and the place after it.
 #[derive(Drop)]
 struct Step {
-    op: u8,
+    kind: Kind,
     got: Outcome,
     expected: Outcome,
     search: Search,
@@ -32,15 +33,16 @@ struct Tally {
     differ: usize,
 }
 
-// Runs the case at a place. One that can't be read is run with what could be read of it, and leads to a place past the stream's end.
-fn run_case(stream: &[u8], at: usize, search: Search) -> Step
-    ensures { CaseRun stream.now at search result }
+// Runs the case at a place; none where no kind's number stands there. One that can't be read is run with what could be read of it, and leads to a
+// place past the stream's end.
+fn run_case(stream: &[u8], at: usize, search: Search) -> Option<Step>
+    ensures { CaseStep stream.now at search result }
 {
     let mut pattern = [0u8; 1024];
     let mut text = byte_room();
     let mut list = list_room();
-    let case = read_case(stream, at, &mut pattern, &mut text);
-    let stored = read_outcome(stream, case.next, case.op != HAND);
+    let case = read_case(stream, at, &mut pattern, &mut text)?;
+    let stored = read_outcome(stream, case.next, has_outcome(case.kind));
     let m = case.pattern;
     let n = case.text;
     let places = case.places;
@@ -49,22 +51,32 @@ fn run_case(stream: &[u8], at: usize, search: Search) -> Step
     let got = called.got;
     let expected = stored.outcome;
     let left = called.search;
-    Step {
-        op: case.op,
+    Some(Step {
+        kind: case.kind,
         got,
         expected,
         search: left,
         next: stored.next,
+    })
+}
+
+// A search that is filled in by hand is no case.
+fn has_outcome(kind: Kind) -> bool
+    ensures { result ≡ not (is_hand kind) }
+{
+    match kind {
+        Kind::Hand => false,
+        _ => true,
     }
 }
 
-// Compares a case's outcome with the one stored. A search that is filled in by hand is no case.
-fn compare<R: Print>(rt: &R, tally: Tally, op: u8, got: Outcome, expected: Outcome) -> Tally
+// Compares a case's outcome with the one stored.
+fn compare<R: Print>(rt: &R, tally: Tally, kind: Kind, got: Outcome, expected: Outcome) -> Tally
     requires { (tally.differ ≤ tally.cases) × (tally.cases < 2 ^ 63) }
     ensures differ_le_cases { (result.differ ≤ result.cases) × (result.cases ≤ tally.cases + 1) }
-    ensures value { result ≡ tallied tally op got expected }
+    ensures value { result ≡ tallied tally kind got expected }
 {
-    if op == HAND {
+    if !has_outcome(kind) {
         return tally;
     }
     let cases = tally.cases + 1;
@@ -74,7 +86,7 @@ fn compare<R: Print>(rt: &R, tally: Tally, op: u8, got: Outcome, expected: Outco
             differ: tally.differ,
         };
     }
-    print_difference(rt, cases, op, got, expected);
+    print_difference(rt, cases, kind as u8, got, expected);
     Tally {
         cases,
         differ: tally.differ + 1,
@@ -96,7 +108,13 @@ fn run<R: Print>(rt: &R, stream: &[u8]) -> Tally
         if stream.len() <= at {
             break;
         }
-        let step = run_case(stream, at, search);
+        let step = match run_case(stream, at, search) {
+            Some(step) => step,
+            None => {
+                print_malformed(rt, at);
+                break;
+            }
+        };
         if stream.len() < step.next {
             print_malformed(rt, at);
             break;
@@ -104,7 +122,7 @@ fn run<R: Print>(rt: &R, stream: &[u8]) -> Tally
         let got = step.got;
         let expected = step.expected;
         let left = step.search;
-        tally = compare(rt, tally, step.op, got, expected);
+        tally = compare(rt, tally, step.kind, got, expected);
         search = left;
         at = step.next;
     }

@@ -1,5 +1,5 @@
 -- `tests_calls::call_report` meets its contract: the output stands in the first bytes of its buffer.
-use mathlib.Core.Path.{sym, ap, ap₂, ◌∙◌}
+use mathlib.Core.Path.{sym, ap₂, ◌∙◌}
 use Prim.Native.Nat.{ℕ, ◌≤◌}
 use native.Mathlib.Omega.{arith}
 use lib.ListN.{length}
@@ -17,8 +17,8 @@ slice_bounds-output-end c =
     let inside : c.report-written.result ≤ length c.report-written.new.buffer = output-inside _ c.report-written.ensures (search rules) in
     inside
 
-pub slice_bounds-digest_bytes-end : goal.slice_bounds-digest_bytes-end
-slice_bounds-digest_bytes-end c =
+pub slice_bounds-bytes-end : goal.slice_bounds-bytes-end
+slice_bounds-bytes-end c =
     let inside : c.report-written.result ≤ length c.report-written.new.buffer = output-inside _ c.report-written.ensures (search rules) in
     sym (length-take-le c.report-written.result c.report-written.new.buffer inside)
 
@@ -26,4 +26,4 @@ pub returns : goal.returns
 unfolding report_outcome
 returns c =
     let written = c.report-written.ensures in
-    ap₂ (λ (a d : ℕ). outcome_of 0 a 0 d) (omega (arith, written.place)) (c.digest_bytes.ensures.is ∙ ap (digest 0) (written-part written))
+    ap₂ (λ (a d : ℕ). outcome_of 0 a 0 d) (omega (arith, written.place)) (c.bytes.ensures ∙ ap₂ digest c.new.ensures (written-part written))

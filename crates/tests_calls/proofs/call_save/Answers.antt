@@ -20,4 +20,4 @@ save-made places filled least came = record { after = _; came = rw (filled, leas
 
 pub returns : goal.returns
 returns c =
-    save-made _ (filled-part c.fill_buffer.ensures) c.least-room.ensures c.save_into.ensures
+    save-made _ (filled-part c.fill_buffer.ensures) c.min-room.ensures c.save_into.ensures

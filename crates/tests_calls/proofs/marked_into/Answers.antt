@@ -1,5 +1,5 @@
 -- `tests_calls::marked_into` meets its contract.
-use Rattle.tests_outcomes.proofs.Digesting.{digested-append}
+use Rattle.tests_outcomes.proofs.Digesting.{digest-append}
 use Rattle.tests_calls.proofs.marked_into.Goals as goal
 
 pub returns : goal.returns
@@ -7,5 +7,5 @@ returns c =
     record {
       result = c.whole-answer.result;
       says = c.whole-answer.ensures;
-      is = c.marked.ensures _ (digested-append c.digest_list.ensures c.digest_bytes.ensures);
+      is = rw (c.marked.ensures, c.bytes.ensures, c.list.ensures, c.new.ensures, digest-append, digest-append);
     }

@@ -10,12 +10,12 @@ loop-turn-init g c = (omega arith, (omega arith, (omega arith, (omega arith, non
 pub loop-turn-preserved : goal.loop-turn-preserved
 loop-turn-preserved g c =
     let inv = c.loop-turn.invariant in
-    let onward = run-onward c.run_case-step.ensures (omega arith) (omega arith) in (
+    let onward = run-onward c.in-Some.ensures (omega arith) (omega arith) in (
       omega arith,
-      (omega arith, (omega arith, (omega arith, rw c.compare-tally.ensures.value (more inv.1.1.1.1 c.run_case-step.ensures (omega arith))))),
+      (omega arith, (omega arith, (omega arith, rw c.compare-tally.ensures.value (more inv.1.1.1.1 c.in-Some.ensures (omega arith))))),
     )
 
 pub returns-then-stream-step-clause-tally_of : goal.returns-then-stream-step-clause-tally_of
 returns-then-stream-step-clause-tally_of g c =
     let inv = c.loop-turn.invariant in
-    record { at = _; search = _; reached = inv.1.1.1.1; ended = malformed c.run_case-step.ensures (omega arith) }
+    record { at = _; search = _; reached = inv.1.1.1.1; ended = malformed c.in-Some.ensures (omega arith) }

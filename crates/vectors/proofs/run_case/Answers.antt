@@ -4,4 +4,5 @@ use Rattle.vectors.proofs.run_case.Goals as goal
 
 pub returns : goal.returns
 returns c =
-    case-run _ _ c.read_case-case.ensures.stored_case c.read_outcome-stored.ensures c.fill_list.ensures c.make_call-called.ensures
+    let read = c.in_ok-case.ensures.stored_case in
+    case-run _ _ read.0 read.1 (rw c.has_outcome.ensures at c.read_outcome-stored.ensures) c.fill_list.ensures c.make_call-called.ensures
