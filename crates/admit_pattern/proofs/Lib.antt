@@ -1,3 +1,4 @@
+mod Exact
 mod Lost
 pub mod Refusing
 pub mod Counting

@@ -16,14 +16,14 @@ use table_parikh::LOST_HOUR;
 // The longest pattern.
 pub const LONGEST_PATTERN: usize = 64;
 
-// The method takes no tolerance but 0.
-#[tactic(auto, unfolding(jumbled::specs::Refusals::exact_only))]
-pub fn exact_only(method: Method) -> bool
-    ensures { result ≡ exact_only (method_number method) }
+// The method of this number takes no tolerance but 0.
+#[tactic(auto, using(crate::proofs::Exact::not_exact), unfolding(jumbled::specs::Refusals::exact_only))]
+pub fn exact_only(method: u8) -> bool
+    ensures { result ≡ exact_only method }
 {
-    match method {
-        Method::Bam | Method::Bam2 | Method::Hcam | Method::Ebl => true,
-        Method::Count | Method::Abam => false,
+    match Method::try_from(method) {
+        Ok(Method::Bam | Method::Bam2 | Method::Hcam | Method::Ebl) => true,
+        Ok(Method::Count | Method::Abam) | Err(_) => false,
     }
 }
 
@@ -43,10 +43,10 @@ pub fn admit_method(
     let Ok(taken) = Method::try_from(method) else {
         return Err(Refusal::UnknownMethod);
     };
-    if 0 < k && exact_only(taken) {
+    if 0 < k && exact_only(method) {
         return Err(Refusal::ToleranceNotTaken);
     }
-    if 64 < table_widths::field_bits(pattern, counts, k as usize, taken) {
+    if 64 < table_widths::field_bits(pattern, counts, k as usize, method) {
         return Err(Refusal::FieldsTooWide);
     }
     Ok(taken)

@@ -173,9 +173,9 @@ impl<'a> PatternFields<'a> {
     }
 }
 
-// The bits that all fields need together: document 01, "When a call says no", 5. Only methods 2 to 4 have fields to measure.
+// The bits that all fields of a method need together. Only methods 2 to 4 have fields to measure.
 #[tactic(auto, using(crate::proofs::Widths::no_bits))]
-pub fn field_bits(pattern: &[u8], counts: &[u8; 256], k: usize, method: Method) -> usize
+fn method_bits(pattern: &[u8], counts: &[u8; 256], k: usize, method: Method) -> usize
     requires { (length pattern.now ≤ 64) × (counts.now ≡ parikh pattern.now) × (k ≤ 64) }
     ensures { result ≡ bits pattern.now (layout_of k (method_number method)) }
 {
@@ -185,5 +185,16 @@ pub fn field_bits(pattern: &[u8], counts: &[u8; 256], k: usize, method: Method) 
             fields.own_bits() + fields.shared_width()
         }
         _ => 0,
+    }
+}
+
+// The same by a method's number, which may be any: document 01, "When a call says no", 5. A number that no method has has no fields.
+pub fn field_bits(pattern: &[u8], counts: &[u8; 256], k: usize, method: u8) -> usize
+    requires { (length pattern.now ≤ 64) × (counts.now ≡ parikh pattern.now) × (k ≤ 64) }
+    ensures { result ≡ bits pattern.now (layout_of k method) }
+{
+    match Method::try_from(method) {
+        Ok(method) => method_bits(pattern, counts, k, method),
+        Err(_) => 0,
     }
 }

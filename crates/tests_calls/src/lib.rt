@@ -16,7 +16,6 @@ mod from_answers;
 mod searches;
 
 use from_answers::{admitted, answered, first_answered, marked, saved};
-use methods::Method;
 use program_report::OUTPUT_ROOM;
 use search::{FeedResult, SaveResult, Search, SearchResult};
 use searches::{digest_search, search_of};
@@ -230,10 +229,7 @@ fn width_of(pattern: &[u8], k: u8, method: u8) -> usize
         return 0;
     }
     let counts = table_parikh::counts(pattern);
-    match Method::try_from(method) {
-        Ok(method) => table_widths::field_bits(pattern, &counts, k as usize, method),
-        Err(_) => 0,
-    }
+    table_widths::field_bits(pattern, &counts, k as usize, method)
 }
 
 // Whether method 5 takes a candidate for a match without verifying it. No longer pattern gets so far.

@@ -1,19 +1,10 @@
--- `table_widths::field_bits` meets its contract: the fields are the pattern's own and the shared one.
-use Rattle.std.proofs.Common.{◌+◌, arith, sym, ◌∙◌}
-use mathlib.Core.Path.{ap₂}
-use Rattle.methods.specs.Numbers.{method_number}
-use Rattle.table_widths.specs.Layouts.{layout}
-use Rattle.table_widths.proofs.Widths.{layout-narrow, widths-most, bits-split}
+-- `table_widths::field_bits` meets its contract.
+use Rattle.std.proofs.Common.{sym}
+use Rattle.table_widths.proofs.Widths.{unknown_bits}
 use Rattle.table_widths.proofs.field_bits.Goals as goal
 
-pub overflow_add-result : goal.overflow_add-result
-overflow_add-result c =
-    let fields = c.of-fields.result in
-    let narrow = layout-narrow fields.k (method_number fields.method) fields.tolerance in
-    omega (arith, c.own_bits.ensures, c.shared_width.ensures, widths-most fields.pattern.now (layout fields) 256 fields.counted.short narrow, narrow.common-most)
+pub returns-in-Ok : goal.returns-in-Ok
+returns-in-Ok c = rw (← c.in-Ok.ensures) c.method_bits.ensures
 
-pub returns-in-Bam : goal.returns-in-Bam
-returns-in-Bam c =
-    let fields = c.of-fields.result in
-    rw (← c.of-fields.ensures.0, ← c.of-fields.ensures.1, ← c.of-fields.ensures.2)
-    (ap₂ ◌+◌ c.own_bits.ensures c.shared_width.ensures ∙ sym (bits-split fields.pattern.now (layout fields)))
+pub returns-in-Err : goal.returns-in-Err
+returns-in-Err c = sym (unknown_bits c.args.pattern.now c.args.k c.args.method c.in-Err.ensures)

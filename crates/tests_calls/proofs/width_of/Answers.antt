@@ -1,6 +1,4 @@
 -- `tests_calls::width_of` meets its contract.
-use mathlib.Core.Path.{sym}
-use Rattle.table_widths.proofs.Widths.{unknown_bits}
 use borrow.Author.Tests.{lt-ltb, le-ltb}
 use Rattle.tests_calls.specs.Calls.{width_number}
 use Rattle.tests_calls.proofs.width_of.Goals as goal
@@ -13,12 +11,7 @@ pub returns-then-k-gt64 : goal.returns-then-k-gt64
 unfolding width_number
 returns-then-k-gt64 c = rw (le-ltb 64 _ c.if-pattern-gt64.false, lt-ltb 64 _ c.if-k-gt64.true)
 
-pub returns-in-Ok : goal.returns-in-Ok
+pub returns : goal.returns
 unfolding width_number
-returns-in-Ok c =
-    rw (le-ltb 64 _ c.if-pattern-gt64.false, le-ltb 64 _ c.if-k-gt64.false, ← c.in-Ok.ensures) c.field_bits.ensures
-
-pub returns-in-Err : goal.returns-in-Err
-unfolding width_number
-returns-in-Err c =
-    rw (le-ltb 64 _ c.if-pattern-gt64.false, le-ltb 64 _ c.if-k-gt64.false) (sym (unknown_bits c.args.pattern.now c.args.k c.args.method c.in-Err.ensures))
+returns c =
+    rw (le-ltb 64 _ c.if-pattern-gt64.false, le-ltb 64 _ c.if-k-gt64.false) c.field_bits.ensures
