@@ -31,7 +31,9 @@ fn rest_of(split: Split, searched: Reached) -> Range
     rest
 }
 
-// A backward method over the seam and then the chunk.
+// A backward method over the seam and then the chunk. Each method has a function of its own when it runs too: where the loops were put into the caller of
+// all, method 3 took a quarter more time.
+#[inline(never)]
 fn both<M: Backward>(method: &M, joined: Joined, list: &mut [u32]) -> SearchCounts
     requires { PreparedIn (length (M.pattern method.now)) joined list.old }
     ensures { FoundBy (M.scanned method.now) (length (M.pattern method.now)) joined.entry
