@@ -84,7 +84,8 @@ impl Forward for Hcam<'_> {
         }
     }
 
-    // A window is a candidate where its sum is the target's.
+    // A window is a candidate where its sum is the target's. Whether the list is full is asked only where a position was listed. The loop goes by
+    // number: the start itself is listed, and a range with no window may begin where the text has no part to be zipped.
     fn slide(&self, text: &[u8], state: Summed, range: Range, list: &mut [u32]) -> Slid<Summed> {
         let m = self.pattern.len();
         let values = self.values;
@@ -93,13 +94,9 @@ impl Forward for Hcam<'_> {
         let mut lost = state.lost;
         let mut at = range.at;
         let mut inspections = 0;
-        let mut next = range.end;
-        // By number: the start itself is listed, and a range with no window may begin where the text has no part to be zipped.
-        for s in range.first..range.end {
-            if list.len() <= at {
-                next = s; // no place is left
-                break;
-            }
+        let first = range.first;
+        let mut next = if at < list.len() { range.end } else { first };
+        for s in first..next {
             let entering = text[s + m - 1];
             inspections += 1;
             sum = sum.wrapping_add(values[entering as usize]);
@@ -110,6 +107,12 @@ impl Forward for Hcam<'_> {
                 if finding.listed {
                     list[at] = (range.base + s) as u32;
                     at += 1;
+                    if at == list.len() {
+                        next = s + 1; // the last place is taken
+                        sum = sum.wrapping_sub(values[text[s] as usize]);
+                        lost -= (text[s] == LOST_HOUR) as usize;
+                        break;
+                    }
                 }
             }
             let leaving = text[s];

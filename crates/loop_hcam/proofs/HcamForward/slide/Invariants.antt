@@ -1,4 +1,4 @@
-use Rattle.std.proofs.Common.{◌≡◌, refl, ℕ, ◌+◌, ◌-◌, ◌%◌, ◌^◌, ◌<◌, ◌≤◌, Bool, true, false, cond, ◌||◌, eqb, ltb, List, length, get_or, take, drop, set, sym, ◌∙◌, arith}
+use Rattle.std.proofs.Common.{◌≡◌, refl, ℕ, ◌+◌, ◌-◌, ◌%◌, ◌^◌, ◌<◌, ◌≤◌, Bool, true, false, cond, ◌||◌, eqb, ltb, ◌⊎◌, List, length, get_or, take, drop, set, sym, ◌∙◌, inl, inr, ⊎_elim, arith}
 use mir.Val.{bool_byte}
 use Rattle.jumbled.specs.Match.{Bytes, lost_hour, window, window_prefix}
 use Rattle.jumbled.proofs.Windows.{window-part}
@@ -76,22 +76,44 @@ module _ {P allowed values : List ℕ} {target : Target} {m : ℕ} {T : List ℕ
     on-skipped not_listed tally =
         turn-skipped here.turn _ (omega (arith, right.verifies)) (omega (arith, verification-small)) (sym right.lists ∙ not_listed)
 
--- so it is in a turn
-pub sums-of : {sum lost at inspections s : ℕ} {P allowed values T before after : List ℕ} {target : Target} {range : Range}
-    → HcamTabled P allowed values target → Fitting T (length P) range → Bytes T → Running P (length P) T range before after sum lost at inspections s
-    → s < range.end → at < length after
-    → Sums P allowed values target (length P) T range before after sum lost at inspections s
-sums-of tabled fitting bytes running in-loop place =
+-- The loop goes up to `end`, the range's end or, where the list was full, its first window; and while it does a place is free
+pub record Bounded (range : Range) (list : List ℕ) (end at s : ℕ) : Type 0 where
+  pub within : s ≤ end
+  pub inside : end ≤ range.end
+  pub free : s < end → at < length list
+  pub why : (end ≡ range.end) ⊎ (length list ≤ at)
+
+-- one window further, a place being free where a window is left
+pub bounded-next : {range : Range} {list after : List ℕ} {end at next_at s : ℕ} → Bounded range list end at s → s < end
+    → (s + 1 < end → next_at < length after) → Bounded range after end next_at (s + 1)
+bounded-next b l free =
     record {
-      turn = record { fitting = fitting; bytes = bytes; so_far = running.progress; in-loop = in-loop; place = place };
+      within = omega arith;
+      inside = b.inside;
+      free = free;
+      why = ⊎_elim (λ e. inl e) (λ full. absurd (omega (arith, b.free l))) b.why;
+    }
+
+-- and where it ends no window is left, or no place
+pub bounded-end : {range : Range} {list : List ℕ} {end at s : ℕ} → Bounded range list end at s → end ≤ s → (range.end ≤ s) ⊎ (length list ≤ at)
+bounded-end b h = ⊎_elim (λ e. inl (omega arith)) (λ full. inr full) b.why
+
+-- so it is in a turn
+pub sums-of : {sum lost end at inspections s : ℕ} {P allowed values T before after : List ℕ} {target : Target} {range : Range}
+    → HcamTabled P allowed values target → Fitting T (length P) range → Bytes T → Running P (length P) T range before after sum lost at inspections s
+    → Bounded range after end at s → s < end
+    → Sums P allowed values target (length P) T range before after sum lost at inspections s
+sums-of tabled fitting bytes running bounds inside =
+    record {
+      turn = record { fitting = fitting; bytes = bytes; so_far = running.progress; in-loop = omega (arith, bounds.inside); place = bounds.free inside };
       sized = refl;
       allows = tabled.allows;
       tabled = tabled.valued;
       state = running.state;
     }
 
--- No place was missing yet
+-- The bound is where the search would go on, no place being missing yet
 abbrev pub invariant-loop-s : goal.invariant-loop-s
 invariant-loop-s l =
     Running l.self.pattern.now (length l.self.pattern.now) l.text l.fn.range l.initial.list l.list l.sum l.lost l.at l.inspections l.s
-    × (l.next ≡ l.fn.range.end)
+    × (Bounded l.fn.range l.list l.s-end l.at l.s × (l.next ≡ l.s-end))
