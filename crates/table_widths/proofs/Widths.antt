@@ -182,13 +182,17 @@ unfolding bits
 bits-split P L = sum-suc 256 (width_of P L) ∙ ap (λ (n : ℕ). sum 256 (width_of P L) + n) (width-shared P L)
 
 -- a method without fields needs none
-pub bits_none : (P : List ℕ) (L : Layout) → L ≡ no_layout → bits P L ≡ 0
-unfolding bits width_of
-bits_none P L e = rw e (sum_zeros 257 (width_of P no_layout) (λ f. either (eqb f 256) (either (eqb (cc P f) 0) refl)))
+pub widths_none : (n : ℕ) (P : List ℕ) (L : Layout) → L ≡ no_layout → sum n (width_of P L) ≡ 0
+unfolding width_of
+widths_none n P L e = rw e (sum_zeros n (width_of P no_layout) (λ f. either (eqb f 256) (either (eqb (cc P f) 0) refl)))
   where
     either : {a : ℕ} (t : Bool) → a ≡ 0 → cond t 0 a ≡ 0
     either true h = refl
     either false h = h
+
+pub bits_none : (P : List ℕ) (L : Layout) → L ≡ no_layout → bits P L ≡ 0
+unfolding bits
+bits_none = widths_none 257
 
 pub no_bits : (P : List ℕ) (k : ℕ) (method : Method) → (method ≡ Bam → ⊥) → (method ≡ Bam2 → ⊥) → (method ≡ Abam → ⊥) → bits P (layout_of k (method_number method)) ≡ 0
 unfolding layout_of
@@ -199,10 +203,13 @@ no_bits P k Abam bam bam2 abam = absurd (abam refl)
 no_bits P k Hcam bam bam2 abam = bits_none P no_layout refl
 no_bits P k Ebl bam bam2 abam = bits_none P no_layout refl
 
--- nor does a number that no method has
-pub unknown_bits : (P : List ℕ) (k number : ℕ) → is_method number ≡ false → bits P (layout_of k number) ≡ 0
+-- nor does a number that no method has: it has no fields
+pub unknown_layout : (k number : ℕ) → is_method number ≡ false → layout_of k number ≡ no_layout
 unfolding is_method
-unknown_bits P k number unknown = bits_none P (layout_of k number) (layout-none k number (differs 2 refl) (differs 3 refl) (differs 4 refl))
+unknown_layout k number unknown = layout-none k number (differs 2 refl) (differs 3 refl) (differs 4 refl)
   where
     differs : (m : ℕ) → is_method m ≡ true → number ≡ m → ⊥
     differs m known same = let not_known : is_method m ≡ false = rw same at unknown in Prim.cc
+
+pub unknown_bits : (P : List ℕ) (k number : ℕ) → is_method number ≡ false → bits P (layout_of k number) ≡ 0
+unknown_bits P k number unknown = bits_none P (layout_of k number) (unknown_layout k number unknown)

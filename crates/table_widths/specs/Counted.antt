@@ -11,3 +11,8 @@ pub record PatternCounted (pattern counts : List ℕ) (span : Span) : Type 0 whe
   pub short : length pattern ≤ 64
   pub counts-are : counts ≡ parikh pattern
   pub spanned : Spanned pattern span
+
+-- The same, whichever the pattern is
+pub record SomeCounted (counts : List ℕ) (span : Span) : Type 0 where
+  pub pattern : List ℕ
+  pub counted : PatternCounted pattern counts span

@@ -7,7 +7,7 @@ ghost use Rattle.jumbled.specs.Match.{sum};
 ghost use Rattle.jumbled.specs.Fields.{lg as lg_of, letter_width, layout_of, width_of, bits};
 ghost use Rattle.table_parikh.specs.Table.{parikh};
 ghost use Rattle.methods.specs.Numbers.{method_number};
-ghost use Rattle.table_widths.specs.Counted.{PatternCounted};
+ghost use Rattle.table_widths.specs.Counted.{PatternCounted, SomeCounted};
 
 use methods::Method;
 use table_parikh::Span;
@@ -99,6 +99,86 @@ fn letter_width(count: usize) -> usize
     if count < 64 { lg(count + 1) + 1 } else { 8 }
 }
 
+// The width of the field of a byte that the pattern has count times: document 01, "The five methods", 2 to 4, and document 02, T-03.
+#[tactic(auto, using(crate::proofs::Widths::widths), unfolding(jumbled::specs::Fields::layout_of))]
+fn method_own_width(count: usize, k: usize, method: Method) -> usize
+    requires { (count ≤ 64) × (k ≤ 64) }
+    ensures { result ≡ (layout_of k (method_number method)).own count }
+{
+    match method {
+        Method::Bam | Method::Bam2 => letter_width(count),
+        Method::Abam => lg(count.max(k)) + 2,
+        _ => 0,
+    }
+}
+
+// The width of the field that all other bytes share: 2 to 4 there.
+#[tactic(auto, using(crate::proofs::Widths::widths), unfolding(jumbled::specs::Fields::layout_of))]
+fn method_shared_width(k: usize, method: Method) -> usize
+    requires { k ≤ 64 }
+    ensures { result ≡ (layout_of k (method_number method)).common }
+{
+    match method {
+        Method::Bam => 1,
+        Method::Bam2 => 2,
+        Method::Abam => lg(k) + 2,
+        _ => 0,
+    }
+}
+
+// The bits of the fields of a pattern's own bytes, by how often it has each.
+fn method_own_bits(counts: &[u8; 256], span: Span, k: usize, method: Method) -> usize
+    requires { (SomeCounted counts.now span) × (k ≤ 64) }
+    ensures { (of : SomeCounted counts.now span) → result ≡ sum 256 (width_of of.pattern (layout_of k (method_number method))) }
+{
+    let past = span.past;
+    let mut total = 0;
+    for count in &counts[span.low.min(past)..past] {
+        let count = *count as usize;
+        if 0 < count {
+            total += method_own_width(count, k, method);
+        }
+    }
+    total
+}
+
+// The three by a method's number, which may be any; one that no method has has no fields. The width of the field of a byte that the pattern
+// has count times,
+#[tactic(auto, using(crate::proofs::Widths::unknown_layout))]
+pub fn own_width(count: usize, k: usize, method: u8) -> usize
+    requires { (count ≤ 64) × (k ≤ 64) }
+    ensures { result ≡ (layout_of k method).own count }
+{
+    match Method::try_from(method) {
+        Ok(method) => method_own_width(count, k, method),
+        Err(_) => 0,
+    }
+}
+
+// that of the field that all other bytes share,
+#[tactic(auto, using(crate::proofs::Widths::unknown_layout))]
+pub fn shared_width(k: usize, method: u8) -> usize
+    requires { k ≤ 64 }
+    ensures { result ≡ (layout_of k method).common }
+{
+    match Method::try_from(method) {
+        Ok(method) => method_shared_width(k, method),
+        Err(_) => 0,
+    }
+}
+
+// and the bits of the fields of a pattern's own bytes.
+#[tactic(auto, using(crate::proofs::Widths::unknown_layout, crate::proofs::Widths::widths_none))]
+pub fn own_bits(counts: &[u8; 256], span: Span, k: usize, method: u8) -> usize
+    requires { (SomeCounted counts.now span) × (k ≤ 64) }
+    ensures { (of : SomeCounted counts.now span) → result ≡ sum 256 (width_of of.pattern (layout_of k method)) }
+{
+    match Method::try_from(method) {
+        Ok(method) => method_own_bits(counts, span, k, method),
+        Err(_) => 0,
+    }
+}
+
 // A pattern beside a method that may have fields for its bytes, and what the fields' widths are measured from.
 #[derive(Clone, Copy)]
 pub struct PatternFields<'a> {
@@ -130,46 +210,26 @@ impl<'a> PatternFields<'a> {
         }
     }
 
-    // The width of the field of a byte that the pattern has count times: document 01, "The five methods", 2 to 4, and document 02, T-03.
-    #[tactic(auto, using(crate::proofs::Widths::widths), unfolding(jumbled::specs::Fields::layout_of))]
+    // The width of the field of a byte that the pattern has count times.
     pub fn own_width(&self, count: usize) -> usize
         requires { count ≤ 64 }
         ensures { result ≡ (layout self.now).own count }
     {
-        match self.method {
-            Method::Bam | Method::Bam2 => letter_width(count),
-            Method::Abam => lg(count.max(self.k)) + 2,
-            _ => 0,
-        }
+        method_own_width(count, self.k, self.method)
     }
 
-    // The width of the field that all other bytes share: 2 to 4 there.
-    #[tactic(auto, using(crate::proofs::Widths::widths), unfolding(jumbled::specs::Fields::layout_of))]
+    // The width of the field that all other bytes share.
     pub fn shared_width(&self) -> usize
         ensures { result ≡ (layout self.now).common }
     {
-        match self.method {
-            Method::Bam => 1,
-            Method::Bam2 => 2,
-            Method::Abam => lg(self.k) + 2,
-            _ => 0,
-        }
+        method_shared_width(self.k, self.method)
     }
 
     // The bits of the fields of the pattern's own bytes.
     pub fn own_bits(&self) -> usize
         ensures { result ≡ sum 256 (width_of self.now.pattern.now (layout self.now)) }
     {
-        let counts = self.counts;
-        let past = self.span.past;
-        let mut total = 0;
-        for count in &counts[self.span.low.min(past)..past] {
-            let count = *count as usize;
-            if 0 < count {
-                total += self.own_width(count);
-            }
-        }
-        total
+        method_own_bits(self.counts, self.span, self.k, self.method)
     }
 }
 
