@@ -1,11 +1,11 @@
 -- Laws of what stands in a line's columns.
 use mathlib.Core.Path.{◌≡◌, refl, sym, ap, ap₂, ◌∙◌}
 use mathlib.Core.List.{List, [], ◌∷◌, ◌++◌, append_assoc, append-nil, map, map-append}
-use Prim.Native.Nat.{ℕ, ◌+◌, ◌-◌, ◌/◌, ◌%◌, ◌≤◌, ◌<◌}
+use Prim.Native.Nat.{ℕ, suc, ◌+◌, ◌-◌, ◌/◌, ◌%◌, ◌≤◌, ◌<◌}
 use native.Mathlib.Omega.{arith}
 use native.Mathlib.Numerals.{add-one}
 use lib.ListN.{length, get_or, take, set, replicate, length-append, length-map, length-replicate, length-take}
-use lib.Seq.{take-suc}
+use lib.Seq.{take-suc, take_all}
 use Rattle.std.proofs.lemmas.List.{set_at, replicate-append-replicate}
 use borrow.Author.Tests.{le-leb, lt-leb}
 use Rattle.ascii.specs.Codes.{space}
@@ -30,10 +30,38 @@ shown-itself reading least most = rw (le-leb 33 reading least, le-leb reading 12
 pub shown-more : (U : List ℕ) (i : ℕ) → i < length U → map shown (take (i + 1) U) ≡ map shown (take i U) ++ (shown (get_or U i 0) ∷ [])
 shown-more U i l = ap (λ (n : ℕ). map shown (take n U)) (add-one i) ∙ ap (map shown) (take-suc U i 0 l) ∙ map-append shown (take i U) (get_or U i 0 ∷ [])
 
--- one reading more is no longer than all
-pub shown-shorter : (U : List ℕ) (i r : ℕ) → i < length U → length (map shown (take i U) ++ (r ∷ [])) ≤ length (map shown U)
-shown-shorter U i r l =
-    omega (arith, length-append (map shown (take i U)) (r ∷ []), length-map (take i U) shown, length-map U shown, length-take i U)
+-- ---- a window's column, filled from the left
+
+-- The first i readings of the window stand at the column's left end, and blanks after them
+abbrev pub Filled : (window : List ℕ) → (i : ℕ) → (column : List ℕ) → Type 0
+Filled window i column = column ≡ map shown (take i window) ++ replicate (64 - i) space
+
+pub none-shown : (window : List ℕ) → Filled window 0 (replicate 64 space)
+none-shown window = refl
+
+module _ (window : List ℕ) (i : ℕ) {column : List ℕ} (so_far : Filled window i column) where
+  -- the next reading, in its place
+  pub shown-filled : i < length window → length window ≤ 64 → (place : ℕ) → place ≡ i
+      → Filled window (i + 1) (set column place (shown (get_or window i 0)))
+  shown-filled more fits place is =
+      ap₂ (λ (l : List ℕ) (n : ℕ). set l n reading) (so_far ∙ ap (λ (n : ℕ). map shown (take i window) ++ replicate n space) blank_first) is
+      ∙ set_at (map shown (take i window)) space blanks reading i (omega (arith, length-map (take i window) shown, length-take i window))
+      ∙ sym (append_assoc (map shown (take i window)) (reading ∷ []) blanks)
+      ∙ ap (λ (l : List ℕ). l ++ blanks) (sym (shown-more window i more))
+    where
+      reading : ℕ
+      reading = shown (get_or window i 0)
+
+      blanks : List ℕ
+      blanks = replicate (64 - (i + 1)) space
+
+      blank_first : 64 - i ≡ suc (64 - (i + 1))
+      blank_first = omega arith
+
+  pub all-shown : i ≡ length window → column ≡ left_aligned 64 (map shown window)
+  unfolding left_aligned
+  all-shown all =
+      so_far ∙ ap₂ (λ (U : List ℕ) (n : ℕ). map shown U ++ replicate (64 - n) space) (take_all i window (omega arith)) (all ∙ sym (length-map window shown))
 
 -- ---- a position's column, filled from the right
 

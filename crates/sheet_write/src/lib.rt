@@ -50,23 +50,24 @@ fn position_column(position: usize) -> [u8; POSITION_COLUMN]
     column
 }
 
-// Writes readings as they are printed.
-fn write_shown(readings: &[u8], writer: &mut Writer<'_>)
-    requires { RoomFor writer.old (map shown readings.now) }
-    ensures { Appended writer.old (map shown readings.now) writer.new }
+// Readings as they are printed, blanks to their right.
+fn window_column(window: &[u8]) -> [u8; WINDOW_COLUMN]
+    requires { length window.now ≤ 64 }
+    ensures { result ≡ left_aligned 64 (map shown window.now) }
 {
-    for reading in readings {
-        writer.put(shown_as(*reading));
+    let mut column = [b' '; WINDOW_COLUMN];
+    for (i, reading) in window.iter().enumerate() {
+        column[i] = shown_as(*reading);
     }
+    column
 }
 
-// Writes a window, blanks to its right.
+// Writes a window. Its column is made first, and appended as a whole: a byte at a time would move the writer on for each reading.
 fn write_window(window: &[u8], writer: &mut Writer<'_>)
     requires { (length window.now ≤ 64) × RoomFor writer.old (left_aligned 64 (map shown window.now)) }
     ensures { Appended writer.old (left_aligned 64 (map shown window.now)) writer.new }
 {
-    write_shown(window, writer);
-    writer.fill(b' ', WINDOW_COLUMN - window.len());
+    writer.copy(&window_column(window));
 }
 
 // Writes the line of a position and its window.
