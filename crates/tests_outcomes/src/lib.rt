@@ -63,20 +63,52 @@ pub fn read_outcome(stream: &[u8], at: usize, stored: bool) -> StoredOutcome
     }
 }
 
-// ---- lines, on standard output. A write that fails is not reported.
+// ---- lines, on standard output. A write that fails is not reported, and what follows is tried all the same.
+
+// Prints a line, each byte by a write of its own, and so each number: `#` stands for the next of them.
+fn print_line<R: Print>(rt: &R, line: &[u8], numbers: &[u64]) {
+    let mut numbers = numbers.iter();
+    for byte in line {
+        if *byte != b'#' {
+            drop(rt.write_all(&[*byte]));
+        } else if let Some(number) = numbers.next() {
+            drop(rt.print(*number));
+        }
+    }
+}
 
 // The line of a case that came to something else than is stored.
 pub fn print_difference<R: Print>(rt: &R, case: usize, op: u8, got: Outcome, expected: Outcome) {
-    drop(println!(rt; "case {case} op {op}: got {got}, expected {expected}"));
+    let numbers = [
+        case as u64,
+        op as u64,
+        got.number,
+        got.a,
+        got.b,
+        got.digest,
+        expected.number,
+        expected.a,
+        expected.b,
+        expected.digest,
+    ];
+    print_line(
+        rt,
+        b"case # op #: got # # # #, expected # # # #\n",
+        &numbers,
+    );
 }
 
 pub fn print_malformed<R: Print>(rt: &R, at: usize) {
-    drop(println!(rt; "malformed at byte {at}"));
+    print_line(rt, b"malformed at byte #\n", &[at as u64]);
 }
 
 pub fn print_tally<R: Print>(rt: &R, cases: usize, differ: usize)
     requires { differ ≤ cases }
 {
     let agreed = cases - differ;
-    drop(println!(rt; "{cases} cases, {agreed} agreed, {differ} differ"));
+    print_line(
+        rt,
+        b"# cases, # agreed, # differ\n",
+        &[cases as u64, agreed as u64, differ as u64],
+    );
 }
