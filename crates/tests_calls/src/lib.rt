@@ -272,5 +272,7 @@ pub fn make_call(
         Kind::Marked => beside(search, call_marked(pattern, k, method, text, list)),
         Kind::First => beside(search, call_first(pattern, k, method, text)),
         Kind::Resent => beside(search, call_resent(text)),
+        // as `Exact`, so that there is an answer for every number
+        Kind::Unknown => beside(search, number_outcome(exact(pattern))),
     }
 }

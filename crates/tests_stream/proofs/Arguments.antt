@@ -1,23 +1,26 @@
 -- Cases, as the code reads them.
+use borrow.Author.Tests.{eq-eqb, ne_eqb, lt-ltb}
 use mathlib.Core.Path.{◌≡◌, refl, sym, ap, subst, ◌∙◌}
-use mathlib.Core.Bool.{false}
+use mathlib.Core.Bool.{true, false, true≢false}
 use mathlib.Core.List.{List}
-use Prim.Native.Nat.{ℕ}
+use Prim.Native.Nat.{ℕ, zero, suc, ◌≤◌}
+use native.Mathlib.Omega.{arith}
 use lib.ListN.{take}
 use Rattle.tests_stream.specs.declared.Number.{Number}
 use Rattle.tests_stream.specs.declared.Text.{Text}
-use Rattle.tests_stream.specs.Reading.{number_at}
+use Rattle.tests_stream.specs.Reading.{nowhere, number_at}
 use Rattle.tests_stream.specs.Texts.{spelling, spelling_at, text_byte, Spelled, TextRead}
 use Rattle.table_parikh.specs.Table.{tabulate}
-use Rattle.tests_stream.specs.Kinds.{kind_number, is_hand}
+use Rattle.tests_stream.specs.Kinds.{kind_number, is_kind, is_hand}
 use Rattle.tests_stream.specs.declared.cases.Kind.{Kind}
-use Rattle.tests_stream.specs.declared.cases.Kind.TheVariants.{Whole, Open, Feed, SetMethod, Save, Load, Hand, Report, FieldBits, Exact, Several, Marked, First, Resent}
+use Rattle.tests_stream.specs.declared.cases.Kind.TheVariants.{Unknown, Whole, Open, Feed, SetMethod, Save, Load, Hand, Report, FieldBits, Exact, Several, Marked, First, Resent}
 use Rattle.tests_stream.specs.declared.cases.Case.{Case}
 use Rattle.tests_stream.specs.declared.cases.Shape.{Shape}
-use Rattle.tests_stream.specs.Arguments.{shape_of, case_text_spelling, case_text_at, CaseTextRead, method_at, case_at, CaseRead, kind_at, stored_case_at, stored_pattern, stored_text}
+use Rattle.tests_stream.specs.Arguments.{shape_of, case_text_spelling, case_text_at, CaseTextRead, method_at, case_at, CaseRead, kind_at, stored_case_at, stored_pattern, stored_text, StoredCase}
 use Rattle.tests_stream.proofs.Filling.{filled-part}
 
 not-hand : (kind : Kind) → (kind ≡ Hand → ⊥) → is_hand kind ≡ false
+not-hand Unknown other = refl
 not-hand Whole other = refl
 not-hand Open other = refl
 not-hand Feed other = refl
@@ -62,17 +65,37 @@ case-read stream at kind es sought ek em searched ep =
       text = rw (em, ek, sought.is, es) at searched.bytes;
     }
 
--- a case of the kind whose number was read
-pub stored : (stream : List ℕ) (at : ℕ) {number : Number} {kind : Kind} {case : Case} {P P' T T' : List ℕ}
-    → number ≡ number_at stream at 1 14
-    → kind_number kind ≡ number.value
-    → CaseRead stream number.next kind case P P' T T'
-    → (kind_number case.kind ≡ (kind_at stream at).value) × CaseRead stream (kind_at stream at).next case.kind case P P' T T'
-unfolding case_at
-stored stream at {kind = kind} {case} {P} {P'} {T} {T'} is named read =
-    let same : case.kind ≡ kind = ap (λ (c : Case). c.kind) read.is in
-    subst (λ (k : Kind). (kind_number k ≡ (kind_at stream at).value) × CaseRead stream (kind_at stream at).next k case P P' T T') (sym same)
-    (rw (← is) (named, read))
+-- the number of a kind is not 0, and of those up to 14 only 0 is no kind's
+is_some : (n : ℕ) → is_kind n ≡ true → n ≡ 0 → ⊥
+is_some zero known none = true≢false (sym known)
+is_some (suc n) known none = omega arith
+
+is_none : (n : ℕ) → n ≤ 14 → is_kind n ≡ false → n ≡ 0
+is_none zero small unknown = refl
+is_none (suc n) small unknown = absurd (true≢false (rw (lt-ltb 0 (suc n) (omega arith), lt-ltb (suc n) 15 (omega arith)) at unknown))
+
+module _ (stream : List ℕ) (at : ℕ) {number : Number} {kind : Kind} {case : Case} {P P' T T' : List ℕ} where
+  of-kind : kind_at stream at ≡ number → kind_number kind ≡ number.value → CaseRead stream number.next kind case P P' T T'
+      → StoredCase stream at case P P' T T'
+  unfolding case_at
+  of-kind found named read =
+      let same : case.kind ≡ kind = ap (λ (c : Case). c.kind) read.is in
+      subst (λ (k : Kind). (kind_number k ≡ (kind_at stream at).value) × CaseRead stream (kind_at stream at).next k case P P' T T') (sym same)
+      (rw found (named, read))
+
+  -- a case of the kind whose number was read
+  pub kind-some : number ≡ number_at stream at 1 14 → kind_number kind ≡ number.value → is_kind number.value ≡ true
+      → CaseRead stream number.next kind case P P' T T' → StoredCase stream at case P P' T T'
+  unfolding kind_at
+  kind-some is named known read = of-kind (rw (← is, ne_eqb number.value 0 (is_some number.value known))) named read
+
+-- or of none
+pub kind-none : (stream : List ℕ) (at : ℕ) {number : Number} {case : Case} {P P' T T' : List ℕ}
+    → number ≡ number_at stream at 1 14 → number.value ≤ 14 → is_kind number.value ≡ false
+    → CaseRead stream nowhere Unknown case P P' T T' → StoredCase stream at case P P' T T'
+unfolding kind_at
+kind-none stream at {number} is small unknown read =
+    of-kind stream at (rw (← is, eq-eqb number.value 0 (is_none number.value small unknown))) refl read
 
 -- what was read is the case at that place, with its pattern and its text in the first bytes of the buffers
 module _ {stream : List ℕ} (at : ℕ) {case : Case} {P P' T T' : List ℕ} (read : CaseRead stream (kind_at stream at).next case.kind case P P' T T') where

@@ -13,7 +13,7 @@ use Rattle.tests_stream.specs.Reading.{nowhere, part_at, bytes_at, next_at, numb
 use Rattle.tests_stream.specs.Texts.{Spelling, spelling, letters, text_with, text_of, plain_spelling, made_spelling, spelling_at, text_at}
 use Rattle.tests_stream.specs.Kinds.{is_hand}
 use Rattle.tests_stream.specs.declared.cases.Kind.{Kind}
-use Rattle.tests_stream.specs.Arguments.{case_text_at, method_at, case_at, stored_case_at}
+use Rattle.tests_stream.specs.Arguments.{case_text_at, method_at, case_at, kind_at, stored_case_at}
 use Rattle.tests_stream.specs.declared.Number.{Number}
 use Rattle.tests_stream.specs.declared.Text.{Text}
 
@@ -106,8 +106,15 @@ module _ (stream : List ℕ) (long : length stream ≤ nowhere) where
       let places = number-onward _ _ _ text.at_most in
       then-onward pattern (then-onward k (then-onward method (then-onward text places)))
 
+  kind-onward : (at : ℕ) → at < length stream → Onward (at + 1) (kind_at stream at).next
+  unfolding kind_at
+  kind-onward at inside =
+      let kind = number_at stream at 1 14 in
+      either-onward (λ (n : Number). n.next) (eqb kind.value 0) (number_with 0 nowhere) kind
+      (record { no-earlier = omega arith; at_most = omega arith }) (number_past (at + 1) at 1 14 (omega arith) (omega arith))
+
   pub case-onward : (at : ℕ) (kind : Kind) → at < length stream → Onward (at + 1) (stored_case_at stream at kind).next
   unfolding stored_case_at
   case-onward at kind inside =
-      let number = number_past (at + 1) at 1 14 (omega arith) (omega arith) in
+      let number = kind-onward at inside in
       then-onward number (arguments-onward _ kind number.at_most)

@@ -1,12 +1,12 @@
 -- The kinds of cases and their arguments, as they stand in the stream (tools/vectors_stream.py). An argument that a kind lacks takes no bytes.
-use Rattle.std.specs.Prelude.{◌≡◌, false, cond, List, ℕ, Option, MatchOption}
+use Rattle.std.specs.Prelude.{◌≡◌, false, cond, List, ℕ, eqb}
 use Rattle.table_parikh.specs.Table.{tabulate}
 use Rattle.tests_stream.specs.declared.Number.{Number}
 use Rattle.tests_stream.specs.declared.Text.{Text}
-use Rattle.tests_stream.specs.Kinds.{kind_number, is_kind, is_hand}
+use Rattle.tests_stream.specs.Kinds.{kind_number, is_hand}
 use Rattle.tests_stream.specs.declared.cases.Kind.{Kind}
-use Rattle.tests_stream.specs.declared.cases.Kind.TheVariants.{Whole, Open, Feed, SetMethod, Save, Load, Hand, Report, FieldBits, Exact, Several, Marked, First, Resent}
-use Rattle.tests_stream.specs.Reading.{number_at}
+use Rattle.tests_stream.specs.declared.cases.Kind.TheVariants.{Unknown, Whole, Open, Feed, SetMethod, Save, Load, Hand, Report, FieldBits, Exact, Several, Marked, First, Resent}
+use Rattle.tests_stream.specs.Reading.{nowhere, number_with, number_at}
 use Rattle.tests_stream.specs.Texts.{Spelling, spelling, text_byte, HoldsText, text_of, spelling_at, text_at}
 use Rattle.tests_stream.specs.declared.cases.Case.{Case}
 use Rattle.tests_stream.specs.declared.cases.Shape.{Shape}
@@ -17,6 +17,7 @@ arguments pattern text k method places most = record { pattern = pattern; text =
 
 -- Those of each kind
 unfoldable pub shape_of : Kind → Shape
+shape_of Unknown = arguments 0 0 0 0 0 0
 shape_of Whole = arguments 300 65537 1 1 4 65537
 shape_of Open = arguments 300 0 1 1 0 0
 shape_of Feed = arguments 0 65537 0 0 4 65537
@@ -77,9 +78,11 @@ pub record CaseRead (stream : List ℕ) (at : ℕ) (kind : Kind) (case : Case) (
   pub pattern : HoldsText stream (spelling_at stream at (shape_of kind).pattern) case.pattern P P'
   pub text : HoldsText stream (case_text_spelling stream (method_at stream at kind).next kind (shape_of kind).text) case.text T T'
 
--- The number of the kind of the case at a place; what can't be read counts as 0, which is no kind's
-abbrev pub kind_at : List ℕ → ℕ → Number
-kind_at stream at = number_at stream at 1 14
+-- The number of the kind of the case at a place, and the place after it; what can't be read counts as 0, which is no kind's, and nothing follows it
+unfoldable pub kind_at : List ℕ → ℕ → Number
+kind_at stream at =
+    let kind = number_at stream at 1 14 in
+    cond (eqb kind.value 0) (number_with 0 nowhere) kind
 
 -- The case of a kind at a place: its arguments follow the kind's number
 unfoldable pub stored_case_at : List ℕ → ℕ → Kind → Case
@@ -95,8 +98,7 @@ stored_text stream at kind =
     let after = (method_at stream (kind_at stream at).next kind).next in
     tabulate (stored_case_at stream at kind).text (text_byte stream (case_text_spelling stream after kind (shape_of kind).text))
 
--- A case of the kind whose number stands at a place was read, or nothing, since no kind has that number
-abbrev pub StoredCase : List ℕ → ℕ → Option Case → (P P' T T' : List ℕ) → Type 0
-StoredCase stream at found P P' T T' =
-    MatchOption found ((is_kind (kind_at stream at).value ≡ false) × (P' ≡ P) × (T' ≡ T))
-    (λ case. (kind_number case.kind ≡ (kind_at stream at).value) × CaseRead stream (kind_at stream at).next case.kind case P P' T T')
+-- The case of the kind whose number stands at a place was read
+abbrev pub StoredCase : List ℕ → ℕ → Case → (P P' T T' : List ℕ) → Type 0
+StoredCase stream at case P P' T T' =
+    (kind_number case.kind ≡ (kind_at stream at).value) × CaseRead stream (kind_at stream at).next case.kind case P P' T T'

@@ -1,10 +1,11 @@
 -- The kinds of cases and their numbers in the stream (tools/vectors_stream.py, "Operations").
 use Rattle.std.specs.Prelude.{◌≡◌, ℕ, Bool, true, false, ◌&&◌, ltb, Result, MatchResult}
 use Rattle.tests_stream.specs.declared.cases.Kind.{Kind}
-use Rattle.tests_stream.specs.declared.cases.Kind.TheVariants.{Whole, Open, Feed, SetMethod, Save, Load, Hand, Report, FieldBits, Exact, Several, Marked, First, Resent}
+use Rattle.tests_stream.specs.declared.cases.Kind.TheVariants.{Unknown, Whole, Open, Feed, SetMethod, Save, Load, Hand, Report, FieldBits, Exact, Several, Marked, First, Resent}
 use Rattle.tests_stream.specs.declared.cases.UnknownKind.{UnknownKind}
 
 abbrev pub kind_number : Kind → ℕ
+kind_number Unknown = 0
 kind_number Whole = 1
 kind_number Open = 2
 kind_number Feed = 3
@@ -26,10 +27,11 @@ is_kind number = ltb 0 number && ltb number 15
 
 -- The result is the kind of this number, and an error where no kind has it
 abbrev pub Names : ℕ → Result Kind UnknownKind → Type 0
-Names number r = MatchResult r (λ kind. kind_number kind ≡ number) (λ _. is_kind number ≡ false)
+Names number r = MatchResult r (λ kind. (kind_number kind ≡ number) × (is_kind number ≡ true)) (λ _. is_kind number ≡ false)
 
 -- A search is filled in by hand
 abbrev pub is_hand : Kind → Bool
+is_hand Unknown = false
 is_hand Whole = false
 is_hand Open = false
 is_hand Feed = false

@@ -1,14 +1,16 @@
 // The stored cases: their kinds and arguments, read from the stream (tools/vectors_stream.py).
-ghost use Rattle.std.specs.Prelude.{IfSome, length, ◌≡◌, ◌≤◌};
+ghost use Rattle.std.specs.Prelude.{length, ◌≡◌, ◌≤◌};
 ghost use Rattle.tests_stream.specs.Kinds.{Names};
 ghost use Rattle.tests_stream.specs.Arguments.{arguments, shape_of, CaseTextRead, CaseRead, StoredCase};
 ghost use Rattle.tests_stream.specs.Cases.{Readable, Lendable, fields_of};
 
-use crate::{Text, read_number, read_text, spell};
+use crate::{NOWHERE, Text, read_number, read_text, spell};
 
 // What a case does, by the stream's numbers.
 #[derive(Clone, Copy, Debug, PartialEq, Eq)]
 pub enum Kind {
+    // a number that no kind has; nothing follows it
+    Unknown = 0,
     Whole = 1,
     Open = 2,
     Feed = 3,
@@ -128,6 +130,7 @@ fn shape_of(kind: Kind) -> Shape
     ensures value { result ≡ shape_of kind }
 {
     match kind {
+        Kind::Unknown => arguments(0, 0, 0, 0, 0, 0),
         Kind::Whole => arguments(300, 65537, 1, 1, 4, 65537),
         Kind::Open => arguments(300, 0, 1, 1, 0, 0),
         Kind::Feed => arguments(0, 65537, 0, 0, 4, 65537),
@@ -179,16 +182,16 @@ fn read_arguments(stream: &[u8], at: usize, kind: Kind, pattern: &mut [u8], text
     }
 }
 
-// The case at a place; none where no kind has the number that stands there.
-pub fn read_case(stream: &[u8], at: usize, pattern: &mut [u8], text: &mut [u8]) -> Option<Case>
+// The case at a place. A number that is no kind's can't be read.
+pub fn read_case(stream: &[u8], at: usize, pattern: &mut [u8], text: &mut [u8]) -> Case
     requires { (1024 ≤ length pattern.old) × (65537 ≤ length text.old) }
-    ensures lendable { IfSome result (λ case. Lendable case.pattern pattern.new case.text text.new case.places) }
+    ensures lendable { Lendable result.pattern pattern.new result.text text.new result.places }
     ensures stored_case { StoredCase stream.now at result pattern.old pattern.new text.old text.new }
 {
     let number = read_number(stream, at, 1, 14);
     match Kind::try_from(number.value as u8) {
-        Ok(kind) => Some(read_arguments(stream, number.next, kind, pattern, text)),
-        Err(_) => None,
+        Ok(kind) => read_arguments(stream, number.next, kind, pattern, text),
+        Err(_) => read_arguments(stream, NOWHERE, Kind::Unknown, pattern, text),
     }
 }
 

@@ -11,6 +11,7 @@ use Rattle.tests_stream.specs.Reading.{nowhere}
 use Rattle.table_parikh.specs.Table.{tabulate}
 use Rattle.tests_stream.specs.Kinds.{kind_number, is_hand}
 use Rattle.tests_stream.specs.Arguments.{kind_at, stored_pattern, stored_text, CaseRead}
+use Rattle.tests_stream.specs.declared.cases.Kind.TheVariants.{Unknown}
 use Rattle.tests_stream.specs.declared.cases.Case.{Case}
 use Rattle.tests_stream.proofs.Filling.{filled-part}
 use Rattle.tests_stream.proofs.Onward.{Onward, then-onward, either-onward, number-onward, case-onward}
@@ -24,15 +25,17 @@ use Rattle.vectors.specs.Runs.{CaseRun}
 
 module _ {stream : List ℕ} (at : ℕ) {s : Search} {case : Case} {P P' T T' before list : List ℕ} (after : List ℕ) {outcome : StoredOutcome} {called : Called} where
   pub case-run : kind_number case.kind ≡ (kind_at stream at).value
+      → (case.kind ≡ Unknown → ⊥)
       → CaseRead stream (kind_at stream at).next case.kind case P P' T T'
       → outcome ≡ outcome_after stream case.next (not (is_hand case.kind))
       → Filled known_place case.places before list
       → CallMade case s (take case.pattern P') (take case.text T') (take case.places list) after called
       → CaseRun stream at s
       (record { kind = case.kind; got = called.got; expected = outcome.outcome; search = called.search; next = outcome.next })
-  case-run named read stored filled made =
+  case-run named known read stored filled made =
       record {
         kind = named;
+        known = known;
         stored = subst (λ (c : Case). outcome ≡ outcome_after stream c.next (not (is_hand case.kind))) (stored-case at read) stored;
         list = after;
         made =

@@ -6,6 +6,7 @@ use Rattle.search.specs.Searches.{blank_search}
 use Rattle.tests_stream.specs.Fillings.{known_place}
 use Rattle.tests_stream.specs.Kinds.{kind_number, is_kind, is_hand}
 use Rattle.tests_stream.specs.declared.cases.Kind.{Kind}
+use Rattle.tests_stream.specs.declared.cases.Kind.TheVariants.{Unknown}
 use Rattle.tests_stream.specs.Arguments.{kind_at, stored_case_at, stored_pattern, stored_text}
 use Rattle.tests_outcomes.specs.Outcomes.{stored_with, outcome_after, same_outcome}
 use Rattle.tests_outcomes.specs.declared.Outcome.{Outcome}
@@ -16,6 +17,7 @@ use Rattle.vectors.specs.declared.Tally.{Tally}
 -- The case at a place was run on a search: its call was made, with a list of so many places as it says, and the outcome after it was read
 pub record CaseRun (stream : List ℕ) (at : ℕ) (s : Search) (step : Step) : Type 0 where
   pub kind : kind_number step.kind ≡ (kind_at stream at).value
+  pub known : step.kind ≡ Unknown → ⊥
   pub stored :
       stored_with step.expected step.next
       ≡ outcome_after stream (stored_case_at stream at step.kind).next (not (is_hand step.kind))

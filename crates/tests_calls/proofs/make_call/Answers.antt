@@ -59,3 +59,7 @@ returns-in-First c = rw (c.in-First.is, c.beside-in-First.ensures) (record { kep
 pub returns-in-Resent : goal.returns-in-Resent
 unfolding CallMade OutcomeMade
 returns-in-Resent c = rw (c.in-Resent.is, c.beside-in-Resent.ensures) (record { kept = refl; made = (refl, search rules) })
+
+pub returns-in-Unknown : goal.returns-in-Unknown
+unfolding CallMade OutcomeMade
+returns-in-Unknown c = rw (c.in-Unknown.is, c.beside-in-Unknown.ensures) (record { kept = refl; made = (refl, rw (c.number_outcome-in-Unknown.ensures, c.exact-in-Unknown.ensures) refl) })
