@@ -13,10 +13,10 @@ ghost use Rattle.search.specs.Searches.{pattern_of, tail_of, stored, blank_searc
 ghost use Rattle.search.specs.Calls.{handed_number, Makes, HandsBack, Opened, Advancing, Feedable, FoundBy, fed_parts, AnswersFeed, Feeds, set_method_number, search_with_method, SetsMethod, Saves, parts_number, load_number, Loads};
 
 use admit_pattern::Admitted;
-use chunk_search::SearchCounts;
 use image_read::Image;
 // The answers and whole search have crates of their own; all that a caller names is here too.
 pub use answers::{Admission, Answer, Refusal, Saving, number_of};
+pub use lent::SearchCounts;
 pub use search_whole::whole;
 
 // A search that goes on from chunk to chunk. Bytes past the lengths are no part of it.

@@ -5,6 +5,7 @@
 ghost use Rattle.several.specs.Whole.{WholeSeveral};
 
 pub use answers::{Answer, Refusal, number_of};
+pub use lent::SearchCounts;
 
 // All of the text at once, for up to eight patterns of one length: their bytes follow one another, and each has its length. The lists' first places
 // get the positions and, beside each of them, the number of the pattern that matches there, from 1.
