@@ -5,6 +5,8 @@ use Prim.Native.Nat.{ℕ, suc, ◌+◌, ◌*◌, ◌≤◌, ◌<◌}
 use native.Mathlib.Omega.{arith}
 use lib.ListN.{length, get_or, take, length-append}
 use lib.Seq.{length-take-le}
+use Rattle.lent.specs.declared.writer.Writer.{Writer}
+use Rattle.lent.specs.Appended.{Appended}
 use Rattle.ascii.specs.Codes.{ascii}
 use Rattle.ascii.specs.Decimal.{decimal}
 use Rattle.program_lines.specs.Lines.{number_line, header, position_lines, counts_line, refusal_text, output_text}
@@ -28,6 +30,10 @@ pub found-parts : (P : List ℕ) (k method : ℕ) (S : List ℕ) (found inspecti
     ≡ header P k method ++ (position_lines (take found S) ++ counts_line found inspections)
 unfolding output_text
 found-parts P k method S found inspections h = rw (length-take-le found S h) (simp append_assoc)
+
+-- what was put is known by its value
+pub put_known : {before after : Writer} {byte digit : ℕ} → Appended before (byte ∷ []) after → byte ≡ digit → Appended before (digit ∷ []) after
+put_known put e = rw e at put
 
 -- ---- how long the lines are
 

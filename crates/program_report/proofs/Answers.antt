@@ -1,7 +1,7 @@
 -- Laws that tie the parts together: what is refused, and what is printed.
 use mathlib.Core.Path.{◌≡◌, refl, sym, ap, ◌∙◌}
 use mathlib.Core.List.{List}
-use Prim.Native.Nat.{ℕ, suc, ◌-◌, ◌<◌}
+use Prim.Native.Nat.{ℕ, suc, ◌-◌, ◌≤◌, ◌<◌}
 use native.Mathlib.Omega.{arith}
 use native.Mathlib.Nat.{suc-ne-zero}
 use lib.ListN.{length}
@@ -13,10 +13,13 @@ use Rattle.jumbled.proofs.Admission.{given-refused, given-later, given-small, re
 use Rattle.jumbled.proofs.Never.{never-given, program-not-5}
 use Rattle.program_request.specs.Request.{request_method, request_tolerance, request_pattern, request_text, bad_line, request_number}
 use Rattle.program_request.specs.declared.Request.{Request}
+use Rattle.lent.specs.Written.{Written}
 use Rattle.answers.specs.Numbers.{number_of}
 use Rattle.answers.specs.declared.Refusal.{Refusal}
 use Rattle.answers.proofs.Refused.{number-positive}
-use Rattle.program_request.proofs.Answered.{Requested}
+use Rattle.std.specs.Prelude.{Ok}
+use Rattle.program_request.specs.Parsing.{Parses}
+use Rattle.program_request.proofs.Answered.{Requested, parsed-ordered, text-shorter, not-long}
 use Rattle.program_lines.specs.Lines.{output_text, refusal_text}
 use Rattle.program_report.specs.Output.{request_refusal, answer_text, output}
 
@@ -69,6 +72,11 @@ module _ (input : List ℕ) where
   pub request-output : {r : Request} → Requested input r → output input ≡ answer_text r.pattern.now r.k r.method r.text.now
   request-output q = output-answer q.accepted ∙ rw (q.pattern-is, q.text-is, q.k-is, q.method-is) refl
 
+  -- put there, whichever way its text was cut from the input
+  pub request-written : {r : Request} {T before after : List ℕ} {n : ℕ} → Requested input r
+      → Written before 0 (answer_text r.pattern.now r.k r.method T) after n → T ≡ request_text input → Written before 0 (output input) after n
+  request-written q put text = rw (request-output q, q.text-is, ← text) put
+
   pub output-refusal : (refusal : Refusal) → request_number input ≡ number_of refusal → output input ≡ refusal_text (number_of refusal)
   output-refusal refusal e =
       let positive = number-positive refusal in
@@ -80,3 +88,15 @@ pub refusal-small : (input : List ℕ) → request_refusal input < 100
 unfolding request_refusal
 refusal-small input =
     given-small _ (program-numbered (length input) (bad_line input) (request_pattern input) (request_tolerance input) (request_method input))
+
+-- ---- the places of a request that `parse` reads, and its text, which fits
+
+module _ {input : List ℕ} {r : Request} (p : Parses input (Ok r)) where
+  pub text_begins : r.line_end < r.end
+  text_begins = (parsed-ordered input p).text
+
+  pub text_ends : r.end ≤ length input
+  text_ends = (parsed-ordered input p).within
+
+pub text-fits : (input : List ℕ) {T : List ℕ} → request_number input ≡ 0 → T ≡ request_text input → length T ≤ 16384
+text-fits input accepted text = omega (arith, ap length text, text-shorter input, not-long input accepted)

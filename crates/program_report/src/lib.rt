@@ -27,6 +27,7 @@ fn answer_request(request: Request, buffer: &mut [u8]) -> usize
         k,
         pattern,
         text,
+        ..
     } = request;
     let mut list = [0u32; LONGEST_INPUT];
     match search_whole::whole(pattern, k, method, text, &mut list) {
@@ -44,6 +45,7 @@ fn answer_request(request: Request, buffer: &mut [u8]) -> usize
 }
 
 // The program's output for an input, in the buffer's first bytes; says how many they are. No output is longer than 98,416 bytes.
+#[tactic(auto, using(crate::proofs::Answers::text_begins, crate::proofs::Answers::text_ends))]
 pub fn report(input: &[u8], buffer: &mut [u8; OUTPUT_ROOM]) -> usize
     ensures { Written buffer.old 0 (output input.now) buffer.new result }
 {

@@ -53,6 +53,16 @@ before-le c U = (cut c U).within
 pub has-cut : (c : ℕ) (U : List ℕ) → has c U ≡ ltb (length (before_first c U)) (length U)
 has-cut c U = (cut c U).there
 
+-- where c occurs, the two sides and it are all of the list
+pub sides-length : (c : ℕ) (U : List ℕ) → has c U ≡ true → length (before_first c U) + 1 + length (after_first c U) ≡ length U
+sides-length c U h =
+    omega (
+      arith,
+      ltb-true (length (before_first c U)) (length U) (sym (has-cut c U) ∙ h),
+      ap length (after-drop c U),
+      length-drop (length (before_first c U) + 1) U,
+    )
+
 -- ---- the place that the code finds
 
 before-place : (c : ℕ) (U : List ℕ) → length (before_first c U) ≡ position_or_len (λ b. eqb b c) U

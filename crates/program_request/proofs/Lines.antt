@@ -2,14 +2,15 @@
 use mathlib.Core.Path.{◌≡◌, refl, ap}
 use mathlib.Core.Bool.{Bool, true, false}
 use mathlib.Core.List.{List}
-use Prim.Native.Nat.{ℕ}
+use Prim.Native.Nat.{ℕ, ◌≤◌}
 use native.Mathlib.Omega.{arith}
+use lib.ListN.{length}
 use Rattle.std.specs.Prelude.{Some, None}
 use Rattle.ascii.specs.Decimal.{decimal_value}
 use Rattle.program_request.specs.Line.{has, method_form, tolerance_form, method_field, tolerance_field, pattern_field, good_line}
 use Rattle.program_request.specs.Reading.{Cut, LineParts, line_meaning, line_parts}
 use Rattle.program_request.specs.declared.Line.{Line}
-use Rattle.program_request.proofs.Splits.{bad-no-space, bad-one-space, bad-method, bad-tolerance, good-all}
+use Rattle.program_request.proofs.Splits.{bad-no-space, bad-one-space, bad-method, bad-tolerance, good-all, pattern-ends}
 
 module _ (line : List ℕ) where
   says-bad : good_line line ≡ false → line_meaning None ≡ line_parts line
@@ -81,3 +82,7 @@ module _ (line : List ℕ) where
             pattern-is = ap (λ (p : LineParts). p.pattern) parts;
           }
       by false good = let none = ap (λ (p : LineParts). p.refusal) (rw good at e) in absurd (omega arith)
+
+  -- the pattern is a part of the line
+  pub pattern-within : (l : Line) → LineFields l → length l.pattern.now ≤ length line
+  pattern-within l fields = omega (arith, ap length fields.pattern-is, pattern-ends line fields.good)

@@ -6,7 +6,7 @@ use Prim.Native.Nat.{ℕ, ◌-◌, ◌≤◌}
 use native.Mathlib.Omega.{arith}
 use lib.Dec.{eqb}
 use lib.ListN.{length, get_or, take, length-take}
-use lib.Seq.{get_or_at, take_at}
+use lib.Seq.{get_or_at, take_at, take-length, length-take-le}
 use Rattle.std.specs.List.{IsLastAndRest}
 use borrow.Author.Tests.{eq-eqb, ne_eqb, eqb-true, eqb-false}
 use Rattle.program_request.specs.Request.{less_newline}
@@ -26,6 +26,16 @@ less-shorter U = at (eqb (get_or U (length U - 1) 0) 10) refl
     at true e =
         omega (arith, ap length (less-cut U (eqb-true (get_or U (length U - 1) 0) 10 e)), length-take (length U - 1) U)
     at false e = omega (arith, ap length (less-kept U (eqb-false (get_or U (length U - 1) 0) 10 e)))
+
+-- the text is the first part of the rest
+pub less-first : (U : List ℕ) → take (length (less_newline U)) U ≡ less_newline U
+less-first U = at (eqb (get_or U (length U - 1) 0) 10) refl
+  where
+    at : (t : Bool) → eqb (get_or U (length U - 1) 0) 10 ≡ t → take (length (less_newline U)) U ≡ less_newline U
+    at true e =
+        let cut = less-cut U (eqb-true (get_or U (length U - 1) 0) 10 e) in
+        rw cut (ap (λ (n : ℕ). take n U) (length-take-le (length U - 1) U (omega arith)))
+    at false e = rw (less-kept U (eqb-false (get_or U (length U - 1) 0) 10 e)) (take-length U)
 
 -- ---- what the code reads at the end
 

@@ -1,5 +1,5 @@
 -- What the functions below `parse` read: a list of bytes cut in two, a field's number, and the first line with document 01's number and its values.
-use Rattle.std.specs.Prelude.{◌≡◌, ℕ, Bool, true, false, cond, List, [], Option, Some, None, MatchOption}
+use Rattle.std.specs.Prelude.{◌≡◌, ℕ, ◌+◌, Bool, true, false, cond, List, [], Option, Some, None, MatchOption, length}
 use Rattle.ascii.specs.Decimal.{decimal_value}
 use Rattle.program_request.specs.Line.{has, before_first, after_first, method_field, tolerance_field, pattern_field, good_line}
 use Rattle.program_request.specs.declared.Line.{Line}
@@ -28,6 +28,10 @@ line_refused = record { refusal = 11; method = 0; k = 0; pattern = [] }
 abbrev pub line_meaning : Option Line → LineParts
 line_meaning None = line_refused
 line_meaning (Some line) = record { refusal = 0; method = line.method; k = line.k; pattern = line.pattern.now }
+
+-- The pattern begins after the method, a space, k and a space
+unfoldable pub pattern_place : List ℕ → ℕ
+pattern_place line = length (method_field line) + 1 + (length (tolerance_field line) + 1)
 
 -- What the line says
 unfoldable pub line_parts : List ℕ → LineParts

@@ -69,13 +69,17 @@ fn first_line(line: &[u8]) -> Option<Line<'_>>
 // The longest input that the program takes.
 pub const LONGEST_INPUT: usize = 16384;
 
-// What an input asks for. The pattern and the text are parts of it.
+// What an input asks for. The pattern and the text are parts of it: the pattern stands from `from` up to the newline at `line_end`, the text after that
+// newline up to `end`.
 #[derive(Clone, Copy)]
 pub struct Request<'a> {
     pub method: u8,
     pub k: u8,
     pub pattern: &'a [u8],
     pub text: &'a [u8],
+    pub from: usize,
+    pub line_end: usize,
+    pub end: usize,
 }
 
 // The text, from what follows the first line: one last newline is no part of it.
@@ -101,10 +105,14 @@ pub fn parse(input: &[u8]) -> Result<Request<'_>, Refusal>
     let Some(Line { method, k, pattern }) = first_line(line) else {
         return Err(Refusal::BadRequest);
     };
+    let text = less_newline(rest);
     Ok(Request {
         method,
         k,
         pattern,
-        text: less_newline(rest),
+        text,
+        from: line.len() - pattern.len(),
+        line_end: line.len(),
+        end: line.len() + 1 + text.len(),
     })
 }

@@ -1,20 +1,21 @@
 -- `program_report::report` meets its contract: the line of a refusal, or what the request asks for.
 use borrow.Author.Rules.{rules}
-use native.Mathlib.Omega.{arith}
-use Rattle.program_request.proofs.Answered.{parsed-refused, parsed-request, not-long, text-shorter}
-use Rattle.program_report.proofs.Answers.{output-refusal, request-output}
+use Rattle.program_request.proofs.Answered.{parsed-refused, parsed-request}
+use Rattle.program_report.proofs.Answers.{output-refusal, request-written, text-fits}
 use Rattle.program_report.proofs.Founds.{refused-fits}
 use Rattle.program_report.proofs.report.Goals as goal
 
 pub write_refusal-requires : goal.write_refusal-requires
 write_refusal-requires c = refused-fits c.in-Err.early c.number_of.ensures (search rules)
 
--- the text is no longer than the input
+-- the text is no longer than the input: the one that was lent, or the part of the input where it stands
 pub answer_request-requires : goal.answer_request-requires
 answer_request-requires c =
     let input = c.args.input.now in
     let requested = parsed-request input c.in-Ok.ensures in
-    (rw requested.text-is (omega (arith, text-shorter input, not-long input requested.accepted)), search rules)
+    let lent = requested.text-is in
+    let part = requested.text-at in
+    (text-fits input requested.accepted cc, search rules)
 
 pub returns-in-Err : goal.returns-in-Err
 returns-in-Err c =
@@ -24,4 +25,7 @@ returns-in-Err c =
 pub returns-in-Ok : goal.returns-in-Ok
 returns-in-Ok c =
     let input = c.args.input.now in
-    rw (request-output input (parsed-request input c.in-Ok.ensures)) c.answer_request.ensures
+    let requested = parsed-request input c.in-Ok.ensures in
+    let lent = requested.text-is in
+    let part = requested.text-at in
+    request-written input requested c.answer_request.ensures cc
