@@ -128,25 +128,27 @@ module _ {patterns : List ℕ} {m count : ℕ} {fields : Fields} {rooms : List �
           packed_more (λ f. cc (pattern_at m patterns f) c) n,
         ))
 
-    -- as the code has them: the pattern as a part of the bytes, and its unit as a 1 moved up
-    abbrev part : List ℕ
-    part = take ((n + 1) * m - n * m) (drop (n * m) patterns)
+    -- as the code has them: the pattern as a part of the bytes from its start on, and its unit as a 1 moved up
+    abbrev part : ℕ → List ℕ
+    part start = take ((n + 1) * m - start) (drop start patterns)
 
     abbrev unit : ℕ
     unit = (1 * 2 ^ (8 * n)) % 2 ^ 64
 
-    part-is : part ≡ pattern_at m patterns n
-    part-is = let rest : (n + 1) * m - n * m ≡ m = omega (arith, add-mul n 1 m, one-mul m) in ap (λ (k : ℕ). take k (drop (n * m) patterns)) rest
+    part-is : (start : ℕ) → start ≡ n * m → part start ≡ pattern_at m patterns n
+    part-is start begins =
+        let rest : (n + 1) * m - n * m ≡ m = omega (arith, add-mul n 1 m, one-mul m) in
+        ap part begins ∙ ap (λ (k : ℕ). take k (drop (n * m) patterns)) rest
 
     unit-is : unit ≡ 2 ^ (8 * n)
     unit-is = unit-at n (omega (arith, given.few))
 
-    module _ {so_far : List ℕ} (placed : so_far ≡ tabulate 256 (placed_word m patterns count n)) where
-      pub part-able : Placeable part unit so_far
-      part-able = rw (part-is, unit-is, placed) placed-able
+    module _ {so_far : List ℕ} (placed : so_far ≡ tabulate 256 (placed_word m patterns count n)) (start : ℕ) (begins : start ≡ n * m) where
+      pub part-able : Placeable (part start) unit so_far
+      part-able = rw (part-is start begins, unit-is, placed) placed-able
 
-      pub part-added : units_added part unit so_far ≡ tabulate 256 (placed_word m patterns count (n + 1))
-      part-added = rw (part-is, unit-is, placed) placed-more
+      pub part-added : units_added (part start) unit so_far ≡ tabulate 256 (placed_word m patterns count (n + 1))
+      part-added = rw (part-is start begins, unit-is, placed) placed-more
 
   -- the lost hour's room, the same in every field
   lost-room : fields.ones * 191 ≡ packed (λ f. top_value - 1 + 64) count

@@ -10,7 +10,7 @@ use Rattle.several_fields.proofs.Placing.{placed_word, placed-none, part-able, p
 use Rattle.several_fields.proofs.place_patterns.Goals as goal
 
 pub loop-field-preserved : goal.loop-field-preserved
-loop-field-preserved c = c.place_pattern.ensures ∙ part-added c.requires c.loop-field.field c.loop-field-test.true c.loop-field.invariant
+loop-field-preserved c = c.place_pattern.ensures ∙ part-added c.requires c.loop-field.field c.loop-field-test.true c.loop-field.invariant _ (omega arith)
 
 pub returns : goal.returns
 returns c =
@@ -23,7 +23,7 @@ pub loop-field-init : goal.loop-field-init
 loop-field-init c = placed-none c.requires
 
 pub place_pattern-requires : goal.place_pattern-requires
-place_pattern-requires c = part-able c.requires c.loop-field.field c.loop-field-test.true c.loop-field.invariant
+place_pattern-requires c = part-able c.requires c.loop-field.field c.loop-field-test.true c.loop-field.invariant _ (omega arith)
 
 pub overflow_mul-rooms : goal.overflow_mul-rooms
 overflow_mul-rooms c = record { fits = lost-room-fits c.requires }
