@@ -1,3 +1,4 @@
 -- The laws that the functions' proofs cite.
 pub mod Columns
 pub mod Pages
+pub mod Fronts

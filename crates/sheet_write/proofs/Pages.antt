@@ -1,11 +1,11 @@
 -- Laws of the pages as they are written: the part of the list that a page has, and the room for it.
 use mathlib.Core.Path.{◌≡◌, sym, ap, ◌∙◌}
-use mathlib.Core.List.{List, ◌++◌}
+use mathlib.Core.List.{List, [], ◌∷◌, ◌++◌}
 use mathlib.Core.Logic.{⊎_elim}
-use Prim.Native.Nat.{ℕ, suc, ◌+◌, ◌-◌, ◌*◌, ◌≤◌, ◌<◌, min}
+use Prim.Native.Nat.{ℕ, zero, suc, ◌+◌, ◌-◌, ◌*◌, ◌≤◌, ◌<◌, min}
 use native.Mathlib.Omega.{arith}
 use lib.ListN.{length, take, drop, length-drop}
-use lib.Seq.{take_all}
+use lib.Seq.{take_all, take-nil}
 use Rattle.jumbled.proofs.Sums.{below_or_not}
 use Rattle.sheet_form.specs.Sheet.{on_page, page, page_count, sheet}
 use Rattle.sheet_form.proofs.Lengths.{on-page, standing, standing-more, standing-shorter}
@@ -35,3 +35,8 @@ pub page-room : (m : ℕ) (T listed : List ℕ) (i : ℕ) {n : ℕ} → i < page
 unfolding sheet
 page-room m T listed i l room =
     omega (arith, standing-shorter m T listed (suc i) (page_count (length listed)) (omega arith), ap length (standing-more m T listed i))
+
+-- one byte parts a page from the one before it
+pub break-later : (i : ℕ) → 0 < i → break_before i ≡ 12 ∷ []
+break-later zero later = absurd (omega arith)
+break-later (suc before) later = ap (λ (U : List ℕ). 12 ∷ U) (take-nil before)
